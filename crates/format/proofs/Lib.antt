@@ -1,0 +1,14 @@
+pub mod Lists
+pub mod Bools
+pub mod Reading
+pub mod Codec
+pub mod Width
+pub mod Look
+pub mod Views
+pub mod Passing
+pub mod Chain
+pub mod Walks
+pub mod Faults
+pub mod Refusal
+pub mod Copies
+pub mod Order

@@ -1,0 +1,6 @@
+pub mod Format
+pub mod View
+pub mod Passed
+pub mod Walk
+pub mod Fault
+pub mod Copy

@@ -1,0 +1,5 @@
+pub mod Every
+pub mod Lookup
+pub mod Headers
+pub mod Found
+pub mod Rows

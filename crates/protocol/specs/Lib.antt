@@ -1,0 +1,5 @@
+pub mod Layer
+pub mod Kind
+pub mod Step
+pub mod Message
+pub mod Packet

@@ -1,0 +1,59 @@
+-- The edges, by computation: the table that is proved, and more of them.
+use Prim.Native.Nat.{ℕ}
+use mathlib.Core.Path.{_≡_, refl}
+use mathlib.Core.Bool.{true, false}
+use mathlib.Core.List.{[], _∷_}
+use mathlib.Core.Option.{none, some}
+use lib.ListN.{replicate}
+use Rattle.format.specs.Format.{decodeNumber, decodeItems, decodeCString, decodeUcs2, decode, encodeNumber, encode, size, total}
+use Rattle.format.specs.Fault.{holdsZero, tooLong}
+use Rattle.format.specs.View.{seen, missed, place, placed, view, look}
+use Rattle.format.specs.Walk.{walkFrom}
+use Rattle.protocol.specs.Layer.{find, layerOf}
+use Rattle.protocol.specs.Kind.{LaserFeedList, kindOf, identifierFormat}
+use Rattle.protocol.specs.Step.{unknown, refusal, readBody, contentAt, stepAt, walk, looked}
+use Rattle.writing.specs.Call.{give, laserFeedList}
+use Rattle.writing.specs.Writer.{bodyDue, weigh, apply}
+use Rattle.stream.specs.Edges.{Edges}
+
+pub edges : Edges
+unfolding walk walkFrom stepAt contentAt readBody layerOf kindOf find looked look view placed place size total decode decodeNumber decodeItems decodeCString decodeUcs2
+edges = (refl, refl, refl, refl, refl, refl, refl, refl, refl, refl, refl, refl, refl, refl)
+
+-- ---- more of them
+
+-- an identifier's type above 5; the type 5 with no data
+pub identifiers :
+    (view identifierFormat (6 ∷ 0 ∷ 0 ∷ []) 0 ≡ missed 10)
+    × (view identifierFormat (5 ∷ 0 ∷ 0 ∷ []) 0 ≡ seen (5, (3, 0)) 3)
+unfolding view placed place size total decode decodeNumber decodeItems
+identifiers = (refl, refl)
+
+-- message_size 19, then 20 with an unknown layer, then 23 with SDMX
+pub sizes :
+    (walk (0x43 ∷ 0x49 ∷ 0x54 ∷ 0x50 ∷ 1 ∷ 0 ∷ 0 ∷ 0 ∷ 19 ∷ 0 ∷ 0 ∷ 0 ∷ 1 ∷ 0 ∷ 0 ∷ 0 ∷ 0x53 ∷ 0x44 ∷ 0x4D ∷ 0x58 ∷ []) ≡ ([], some (4, 0)))
+    × (walk (0x43 ∷ 0x49 ∷ 0x54 ∷ 0x50 ∷ 1 ∷ 0 ∷ 0 ∷ 0 ∷ 20 ∷ 0 ∷ 0 ∷ 0 ∷ 1 ∷ 0 ∷ 0 ∷ 0 ∷ 1 ∷ 0 ∷ 0 ∷ 0 ∷ [])
+    ≡ (record { offset = 0; size = 20; request = 0; content = unknown 1 none } ∷ [], some (0, 20)))
+    × (walk (0x43 ∷ 0x49 ∷ 0x54 ∷ 0x50 ∷ 1 ∷ 0 ∷ 0 ∷ 0 ∷ 23 ∷ 0 ∷ 0 ∷ 0 ∷ 1 ∷ 0 ∷ 0 ∷ 0 ∷ 0x53 ∷ 0x44 ∷ 0x4D ∷ 0x58 ∷ 0 ∷ 0 ∷ 0 ∷ [])
+    ≡ (record { offset = 0; size = 23; request = 0; content = refusal 6 } ∷ [], some (0, 23)))
+unfolding walk walkFrom stepAt contentAt readBody layerOf kindOf find decode decodeNumber
+sizes = (refl, refl, refl)
+
+-- the rows of the writer, tested from the top: everything wrong is 14, and so on
+pub writer-rows :
+    (weigh false true true 16777217 0 ≡ 14)
+    × (weigh true true true 16777217 0 ≡ 11)
+    × (weigh true false true 16777217 0 ≡ 12)
+    × (weigh true false false 16777217 0 ≡ 15)
+    × (weigh true false false 16777216 16777215 ≡ 13)
+    × (weigh true false false 16777216 16777216 ≡ 0)
+writer-rows = (refl, refl, refl, refl, refl, refl)
+
+-- 255 laser feed names are taken, 256 are 12; a state before its headers' end is 14
+pub counts :
+    (apply (give (laserFeedList 0 255)) (record { turn = bodyDue LaserFeedList; at = 24 }) (replicate 29 0) .number ≡ 0)
+    × (apply (give (laserFeedList 0 256)) (record { turn = bodyDue LaserFeedList; at = 24 }) (replicate 29 0) .number ≡ 12)
+    × (apply (give (laserFeedList 0 255)) (record { turn = bodyDue LaserFeedList; at = 23 }) (replicate 29 0) .number ≡ 14)
+    × (apply (give (laserFeedList 0 255)) (record { turn = bodyDue LaserFeedList; at = 24 }) (replicate 28 0) .number ≡ 13)
+unfolding apply encode encodeNumber holdsZero tooLong
+counts = (refl, refl, refl, refl)

@@ -1,0 +1,10 @@
+pub mod Written
+pub mod Accepts
+pub mod Walked
+pub mod Covers
+pub mod Bodies
+pub mod Rewritten
+pub mod Numbers
+pub mod Edges
+pub mod Example
+pub mod Demands

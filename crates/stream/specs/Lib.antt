@@ -1,0 +1,4 @@
+pub mod Accepted
+pub mod Packets
+pub mod Claims
+pub mod Edges

@@ -1,0 +1,4 @@
+pub mod Taken
+pub mod Parts
+pub mod Shape
+pub mod Form

@@ -1,0 +1,136 @@
+-- The calls of the packet writer, what each gives, and what the types of its parameters promise of it.
+use Prim.Native.Nat.{ℕ, _+_, _^_, _<_}
+use mathlib.Core.Bool.{Bool, false, _||_}
+use mathlib.Core.List.{List, [], _∷_, _++_, map}
+use lib.ListN.{length}
+use lib.Dec.{leb}
+use Rattle.format.specs.Format.{Format, number, code, ucs2, _&_, Value, encode, concatMap}
+use Rattle.format.specs.Fault.{Fits, holdsZero, tooLong}
+use Rattle.protocol.specs.Kind.{Kind, bodyOf, identifierFormat, fixtureDataFormat, fixtureFormat, laserPointFormat}
+use Rattle.protocol.specs.Kind.{EnterShow, FixtureList, FixtureRemove, LaserFeedControl, Capa, UNam, ChBk, ChLs, Sxus, Ptch, UPtc, SPtc, Sele, DeSe, SFra, Fram, PNam, PLoc, LaserFeedList, LaserFeedFrame}
+use Rattle.protocol.specs.Message.{Message, headersOf}
+
+-- a fixture up to its identifiers: fixture_identifier, manufacturer_name, fixture_name, mode_name, channel_count, is_dimmer
+abbrev pub fixtureHead : Format
+fixtureHead = number 4 & ucs2 & ucs2 & ucs2 & number 2 & number 1
+
+-- what one call gives between open and close: a flat body at once; or a list's head with its count, then its items one by one,
+-- a fixture as its head with the count of its identifiers, the identifiers one by one, its data
+pub data Part : Type 0 where
+  body : (k : Kind) → Value (bodyOf k) → Part
+  laserFeedList : (sourceKey count : ℕ) → Part
+  feedName : List ℕ → Part
+  laserFeedFrame : (sourceKey feedIndex frameSequence count : ℕ) → Part
+  laserPoint : Value laserPointFormat → Part
+  fixtureList : (messageType count : ℕ) → Part
+  fixture : Value fixtureHead → (count : ℕ) → Part
+  identifier : Value identifierFormat → Part
+  fixtureData : Value fixtureDataFormat → Part
+
+pub data Call : Type 0 where
+  opens : Kind → (request hint : ℕ) → Call
+  give : Part → Call
+  closes : Call
+
+-- ---- what a call gives
+
+-- a value of a format; in a head, the count of the items to come behind it, in a field of so many bytes
+pub data Layout : Type 0 where
+  plain : (f : Format) → Value f → Layout
+  counted : (f : Format) → Value f → (width count : ℕ) → Layout
+
+abbrev pub layoutOf : Part → Layout
+layoutOf (body k v) = plain (bodyOf k) v
+layoutOf (laserFeedList key count) = counted (number 4) key 1 count
+layoutOf (feedName name) = plain ucs2 name
+layoutOf (laserFeedFrame key feed sequence count) = counted (number 4 & number 1 & number 4) (key, (feed, sequence)) 2 count
+layoutOf (laserPoint v) = plain laserPointFormat v
+layoutOf (fixtureList type count) = counted (code 3 9) type 2 count
+layoutOf (fixture v count) = counted fixtureHead v 1 count
+layoutOf (identifier v) = plain identifierFormat v
+layoutOf (fixtureData v) = plain fixtureDataFormat v
+
+abbrev pub layoutBytes : Layout → List ℕ
+layoutBytes (plain f v) = encode f v
+layoutBytes (counted f v w n) = encode f v ++ encode (number w) n
+
+abbrev pub layoutFits : Layout → Type 0
+layoutFits (plain f v) = Fits f v
+layoutFits (counted f v w n) = Fits f v
+
+abbrev pub layoutZero : Layout → Bool
+layoutZero (plain f v) = holdsZero f v
+layoutZero (counted f v w n) = holdsZero f v
+
+abbrev pub layoutLong : Layout → Bool
+layoutLong (plain f v) = tooLong f v
+layoutLong (counted f v w n) = tooLong f v || leb (256 ^ w) n
+
+abbrev pub partBytes : Part → List ℕ
+partBytes p = layoutBytes (layoutOf p)
+
+-- what the parameters' types promise: numbers within their types, elements of strings bytes or units, codes of the enums; a count is any number
+abbrev pub Typed : Call → Type 0
+Typed (opens k request hint) = (request < 65536) × (hint < 4294967296)
+Typed (give p) = layoutFits (layoutOf p)
+Typed closes = Unit {0}
+
+-- the bytes at the writer's place: headers with size field 0, or a part; close writes none there
+abbrev pub bytesOf : Call → List ℕ
+bytesOf (opens k request hint) = headersOf k 0 request hint
+bytesOf (give p) = partBytes p
+bytesOf closes = []
+
+-- a string given holds a zero
+abbrev pub zeroIn : Call → Bool
+zeroIn (opens k request hint) = false
+zeroIn (give p) = layoutZero (layoutOf p)
+zeroIn closes = false
+
+-- a list or block given, or a count declared, is too long for its field
+abbrev pub tooLongIn : Call → Bool
+tooLongIn (opens k request hint) = false
+tooLongIn (give p) = layoutLong (layoutOf p)
+tooLongIn closes = false
+
+-- ---- the calls that give a message
+
+abbrev pub headOf : Value fixtureFormat → Value fixtureHead
+headOf x = (x .0, (x .1 .0, (x .1 .1 .0, (x .1 .1 .1 .0, (x .1 .1 .1 .1 .0, x .1 .1 .1 .1 .1 .0)))))
+
+abbrev pub identifiersOf : Value fixtureFormat → List (Value identifierFormat)
+identifiersOf x = x .1 .1 .1 .1 .1 .1 .0
+
+abbrev pub dataOf : Value fixtureFormat → Value fixtureDataFormat
+dataOf x = x .1 .1 .1 .1 .1 .1 .1
+
+-- a fixture: head with its count of identifiers, identifiers in order, data
+abbrev pub fixtureParts : Value fixtureFormat → List Part
+fixtureParts x = fixture (headOf x) (length (identifiersOf x)) ∷ (map identifier (identifiersOf x) ++ (fixtureData (dataOf x) ∷ []))
+
+-- the parts in which a value of a kind's body is given
+abbrev pub partsOf : (k : Kind) → Value (bodyOf k) → List Part
+partsOf EnterShow v = body EnterShow v ∷ []
+partsOf FixtureList v = fixtureList (v .0) (length (v .1)) ∷ concatMap fixtureParts (v .1)
+partsOf FixtureRemove v = body FixtureRemove v ∷ []
+partsOf LaserFeedControl v = body LaserFeedControl v ∷ []
+partsOf Capa v = body Capa v ∷ []
+partsOf UNam v = body UNam v ∷ []
+partsOf ChBk v = body ChBk v ∷ []
+partsOf ChLs v = body ChLs v ∷ []
+partsOf Sxus v = body Sxus v ∷ []
+partsOf Ptch v = body Ptch v ∷ []
+partsOf UPtc v = body UPtc v ∷ []
+partsOf SPtc v = body SPtc v ∷ []
+partsOf Sele v = body Sele v ∷ []
+partsOf DeSe v = body DeSe v ∷ []
+partsOf SFra v = body SFra v ∷ []
+partsOf Fram v = body Fram v ∷ []
+partsOf PNam v = body PNam v ∷ []
+partsOf PLoc v = body PLoc v ∷ []
+partsOf LaserFeedList v = laserFeedList (v .0) (length (v .1)) ∷ map feedName (v .1)
+partsOf LaserFeedFrame v = laserFeedFrame (v .0) (v .1 .0) (v .1 .1 .0) (length (v .1 .1 .1)) ∷ map laserPoint (v .1 .1 .1)
+
+-- the calls, from open up to but without close, whose values make up a message, items in order
+abbrev pub callsOf : Message → List Call
+callsOf m = opens (m .kind) (m .request) (m .hint) ∷ map give (partsOf (m .kind) (m .value))
