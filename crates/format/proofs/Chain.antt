@@ -1,9 +1,8 @@
 -- A body that is read field by field: what is known after some of its fields, and what is left to read.
-use Prim.Native.Nat.{ℕ}
+use Prim.Native.Nat.{ℕ, zero, suc}
 use mathlib.Core.Path.{_≡_, refl, sym, ap, _∙_}
-use mathlib.Core.List.{List, [], _∷_}
-use lib.ListN.{drop}
-use Rattle.format.specs.Format.{Format, number, _&_}
+use mathlib.Core.List.{List}
+use Rattle.format.specs.Format.{Format, number, code, cstring, ucs2, list, _&_}
 use Rattle.format.specs.View.{View, Seen, seen, missed, view}
 use Rattle.format.proofs.Views.{after, view-pair}
 
@@ -60,11 +59,12 @@ pub none : {whole f : Format} {at k : ℕ} (l : Left whole f at) → view f (l .
 unfolding after
 none l h = rw (l .reads, h) refl
 
--- a body of several fields, and what is left of it after k of them
-abbrev pub fields : List Format → Format
-fields [] = number 0
-fields (f ∷ []) = f
-fields (f ∷ g ∷ fs) = f & fields (g ∷ fs)
-
-abbrev pub rest : ℕ → List Format → Format
-rest k fs = fields (drop k fs)
+-- what is left of a format behind its first k fields
+abbrev pub tailOf : ℕ → Format → Format
+tailOf zero f = f
+tailOf (suc k) (f & g) = tailOf k g
+tailOf (suc k) (number w) = number w
+tailOf (suc k) (code n r) = code n r
+tailOf (suc k) cstring = cstring
+tailOf (suc k) ucs2 = ucs2
+tailOf (suc k) (list w f) = list w f

@@ -3,3 +3,4 @@ pub mod Lookup
 pub mod Headers
 pub mod Found
 pub mod Rows
+pub mod Arms

@@ -7,7 +7,6 @@ use mathlib.Core.Option.{Option, none, some}
 use lib.Dec.{eqb}
 use borrow.Author.Tests.{eqb-true, not-true}
 use Rattle.format.specs.Format.{pick, All}
-use Rattle.format.specs.Fault.{any}
 use Rattle.format.proofs.Bools.{both}
 use Rattle.protocol.specs.Layer.{Layer, PINF, SDMX, FPTC, FSEL, FINF, CAEX, cookie, find, layers, layerOf}
 use Rattle.protocol.specs.Kind.{Kind, layer, contentType, sameKind, kinds, isRead, kindOf}
@@ -76,7 +75,7 @@ findsKind k none = not (isRead k)
 findsKind k (some j) = isRead k && sameKind j k
 
 kind-test : (k : Kind) → findsKind k (kindOf (layer k) (contentType k)) ≡ true
-unfolding every kindOf find isRead any
+unfolding every kindOf find
 kind-test k = every-kind (λ k. findsKind k (kindOf (layer k) (contentType k))) refl k
 
 pub kind-found : (k : Kind) → isRead k ≡ true → kindOf (layer k) (contentType k) ≡ some k
@@ -95,7 +94,7 @@ kind-unread k u = on (kindOf (layer k) (contentType k)) (kind-test k)
     on (some j) h = absurd (false≢true (sym u ∙ both (isRead k) (sameKind j k) h .0))
 
 kind-finds : (l : Layer) (type : ℕ) → Finds (λ k. ((eqb (cookie (layer k)) (cookie l) && eqb (contentType k) type) ≡ true) × (isRead k ≡ true)) (kindOf l type)
-unfolding kindOf every isRead any
+unfolding kindOf every
 kind-finds l type =
     find-finds (λ k. eqb (cookie (layer k)) (cookie l) && eqb (contentType k) type) (λ k. isRead k ≡ true) kinds (every-all isRead kinds refl)
 

@@ -1,11 +1,10 @@
 -- The twenty kinds: order, layer, content type and body of each.
 use Prim.Native.Nat.{ℕ}
-use mathlib.Core.Bool.{Bool, _&&_}
+use mathlib.Core.Bool.{Bool, false, _&&_, _||_}
 use mathlib.Core.List.{List, [], _∷_}
 use mathlib.Core.Option.{Option}
 use lib.Dec.{eqb}
 use Rattle.format.specs.Format.{Format, number, code, cstring, ucs2, list, _&_}
-use Rattle.format.specs.Fault.{any}
 use Rattle.protocol.specs.Layer.{Layer, PINF, SDMX, FPTC, FSEL, FINF, CAEX, letters, cookie, find}
 
 pub data Kind : Type 0 where
@@ -90,9 +89,12 @@ kinds =
     EnterShow ∷ FixtureList ∷ FixtureRemove ∷ LaserFeedControl ∷ Capa ∷ UNam ∷ ChBk ∷ ChLs ∷ Sxus ∷ Ptch ∷ UPtc ∷ SPtc ∷ Sele ∷ DeSe ∷ SFra ∷ Fram
     ∷ PNam ∷ PLoc ∷ []
 
-unfoldable pub isRead : Kind → Bool
-unfolding any
-isRead k = any (sameKind k) kinds
+abbrev pub listed : Kind → List Kind → Bool
+listed k [] = false
+listed k (j ∷ js) = sameKind k j || listed k js
+
+abbrev pub isRead : Kind → Bool
+isRead k = listed k kinds
 
 -- the kind read in a layer under a content type, if there is one
 unfoldable pub kindOf : Layer → ℕ → Option Kind

@@ -10,7 +10,7 @@ use Rattle.format.specs.Fault.{any, holdsZero, tooLong}
 use Rattle.format.specs.View.{seen, view, placed, place, look, steps, stepped, unitsOf}
 use Rattle.format.specs.Walk.{Step, stop, report, reports}
 use Rattle.protocol.specs.Layer.{header}
-use Rattle.protocol.specs.Kind.{UNam, Capa, FixtureList, bodyOf, isRead, fixtureDataFormat}
+use Rattle.protocol.specs.Kind.{UNam, Capa, FixtureList, bodyOf, fixtureDataFormat}
 use Rattle.protocol.specs.Step as reported
 use Rattle.protocol.specs.Step.{readBody, contentAt, stepAt, walk, looked}
 use Rattle.protocol.specs.Message.{Message, headersOf}
@@ -106,7 +106,7 @@ packets = fragment partHeader part ∷ message name nameBytes (0xFF ∷ []) ∷ 
 pub told : map (looked (stream packets)) (walk (stream packets) .0)
     ≡ record { offset = 0; size = 21; request = 0; content = reported.fragment 1 2 }
     ∷ record { offset = 21; size = 28; request = 7; content = reported.message UNam 45 none (3, 0x41 ∷ []) 1 } ∷ []
-unfolding reports isRead any
+unfolding reports
 told = let few : 28 ≤ 16777216 = omega arith in walked packets (part-admissible, ((name-accepted, refl, few), tt)) .walked
 
 -- ---- a fixture list of one fixture with two identifiers and a NaN among its floats, found again by stepping
