@@ -1,0 +1,127 @@
+// The FINF layer: fixture information.
+ghost use mathlib.Core.Path.{_≡_};
+ghost use Rattle.format.specs.View.{view};
+ghost use Rattle.protocol.specs.Layer.{FINF};
+ghost use Rattle.protocol.specs.Step.{readBody};
+ghost use Rattle.finf.specs.Says.{sfra, fram, sfraSays, framSays, messageSays};
+use wire::CString;
+use wire::CStringRead;
+use wire::Cursor;
+use wire::U8Read;
+use wire::U16List;
+use wire::U16ListRead;
+use wire::U16Read;
+
+// The layer: its cookie, and the length of its headers with the base header.
+pub struct Finf;
+
+impl Finf {
+    pub const COOKIE: u32 = 0x464E4946;
+
+    pub const HEADER_LENGTH: usize = 24;
+}
+
+// Send frames: asks for the frames of the fixtures named.
+pub struct SFra {
+    pub fixture_identifiers: U16List,
+}
+
+pub enum SFraRead {
+    Read(SFra, Cursor),
+    Refused(u8),
+}
+
+impl SFra {
+    pub const CONTENT_TYPE: u32 = 0x61724653;
+
+    pub fn read_from_bytes(body: &[u8]) -> SFraRead
+        ensures { λ r. ⌜ sfraSays r ≡ view sfra (now (body .entry)) 0 ⌝ }
+    {
+        let c = Cursor { at: 0 };
+        let U16ListRead::Read(fixture_identifiers, c) = c.u16_list(body) else {
+            return SFraRead::Refused(7);
+        };
+        SFraRead::Read(
+            SFra {
+                fixture_identifiers,
+            },
+            c,
+        )
+    }
+}
+
+// Frames: the filters and gobos of a fixture.
+pub struct Fram {
+    pub fixture_identifier: u16,
+    pub frame_filter_count: u8,
+    pub frame_gobo_count: u8,
+    // filters, then gobos, separated by newlines
+    pub frame_names: CString,
+}
+
+pub enum FramRead {
+    Read(Fram, Cursor),
+    Refused(u8),
+}
+
+impl Fram {
+    pub const CONTENT_TYPE: u32 = 0x6D617246;
+
+    pub fn read_from_bytes(body: &[u8]) -> FramRead
+        ensures { λ r. ⌜ framSays r ≡ view fram (now (body .entry)) 0 ⌝ }
+    {
+        let c = Cursor { at: 0 };
+        let U16Read::Read(fixture_identifier, c) = c.u16(body) else {
+            return FramRead::Refused(7);
+        };
+        let U8Read::Read(frame_filter_count, c) = c.u8(body) else {
+            return FramRead::Refused(7);
+        };
+        let U8Read::Read(frame_gobo_count, c) = c.u8(body) else {
+            return FramRead::Refused(7);
+        };
+        let CStringRead::Read(frame_names, c) = c.cstring(body) else {
+            return FramRead::Refused(8);
+        };
+        FramRead::Read(
+            Fram {
+                fixture_identifier,
+                frame_filter_count,
+                frame_gobo_count,
+                frame_names,
+            },
+            c,
+        )
+    }
+}
+
+// A message of one kind.
+pub enum Message {
+    SFra(SFra),
+    Fram(Fram),
+}
+
+// A message with the cursor behind its body; a content type of no kind that is read; a body that cannot be read.
+pub enum MessageRead {
+    Read(Message, Cursor),
+    Unknown,
+    Refused(u8),
+}
+
+impl Message {
+    pub fn read_from_bytes(content_type: u32, body: &[u8]) -> MessageRead
+        ensures { λ r. ⌜ messageSays r ≡ readBody FINF «content_type» (now (body .entry)) ⌝ }
+    {
+        match content_type {
+            SFra::CONTENT_TYPE => match SFra::read_from_bytes(body) {
+                SFraRead::Read(m, c) => MessageRead::Read(Message::SFra(m), c),
+                SFraRead::Refused(n) => MessageRead::Refused(n),
+            },
+            Fram::CONTENT_TYPE => match Fram::read_from_bytes(body) {
+                FramRead::Read(m, c) => MessageRead::Read(Message::Fram(m), c),
+                FramRead::Refused(n) => MessageRead::Refused(n),
+            },
+            _ => MessageRead::Unknown,
+        }
+    }
+}

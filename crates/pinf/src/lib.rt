@@ -1,0 +1,133 @@
+// The PINF layer: peer information.
+ghost use mathlib.Core.Path.{_≡_};
+ghost use Rattle.format.specs.View.{view};
+ghost use Rattle.protocol.specs.Layer.{PINF};
+ghost use Rattle.protocol.specs.Step.{readBody};
+ghost use Rattle.pinf.specs.Says.{pnam, ploc, pnamSays, plocSays, messageSays};
+use wire::CString;
+use wire::CStringRead;
+use wire::Cursor;
+use wire::U16Read;
+
+// The old port originally used for broadcast.
+pub const OLD_BROADCAST_PORT: u16 = 4810;
+
+// The newer port used for multicast.
+pub const MULTICAST_PORT: u16 = 4809;
+
+// The old multicast address prior to early 2014.
+pub const OLD_MULTICAST_ADDR: [u8; 4] = [224, 0, 0, 180];
+
+// The official multicast address since early 2014.
+pub const MULTICAST_ADDR: [u8; 4] = [239, 224, 0, 180];
+
+// The layer: its cookie, and the length of its headers with the base header.
+pub struct Pinf;
+
+impl Pinf {
+    pub const COOKIE: u32 = 0x464E4950;
+
+    pub const HEADER_LENGTH: usize = 24;
+}
+
+// Peer name: a display name of the peer.
+pub struct PNam {
+    pub name: CString,
+}
+
+pub enum PNamRead {
+    Read(PNam, Cursor),
+    Refused(u8),
+}
+
+impl PNam {
+    pub const CONTENT_TYPE: u32 = 0x6D614E50;
+
+    pub fn read_from_bytes(body: &[u8]) -> PNamRead
+        ensures { λ r. ⌜ pnamSays r ≡ view pnam (now (body .entry)) 0 ⌝ }
+    {
+        let c = Cursor { at: 0 };
+        let CStringRead::Read(name, c) = c.cstring(body) else {
+            return PNamRead::Refused(8);
+        };
+        PNamRead::Read(PNam { name }, c)
+    }
+}
+
+// Peer location: where and how a peer can be reached.
+pub struct PLoc {
+    // 0 if the peer is not listening
+    pub listening_tcp_port: u16,
+    // "LightingConsole", "MediaServer" or "Visualiser"
+    pub kind: CString,
+    pub name: CString,
+    // a state to display, as "Idle" or "Running"
+    pub state: CString,
+}
+
+pub enum PLocRead {
+    Read(PLoc, Cursor),
+    Refused(u8),
+}
+
+impl PLoc {
+    pub const CONTENT_TYPE: u32 = 0x636F4C50;
+
+    pub fn read_from_bytes(body: &[u8]) -> PLocRead
+        ensures { λ r. ⌜ plocSays r ≡ view ploc (now (body .entry)) 0 ⌝ }
+    {
+        let c = Cursor { at: 0 };
+        let U16Read::Read(listening_tcp_port, c) = c.u16(body) else {
+            return PLocRead::Refused(7);
+        };
+        let CStringRead::Read(kind, c) = c.cstring(body) else {
+            return PLocRead::Refused(8);
+        };
+        let CStringRead::Read(name, c) = c.cstring(body) else {
+            return PLocRead::Refused(8);
+        };
+        let CStringRead::Read(state, c) = c.cstring(body) else {
+            return PLocRead::Refused(8);
+        };
+        PLocRead::Read(
+            PLoc {
+                listening_tcp_port,
+                kind,
+                name,
+                state,
+            },
+            c,
+        )
+    }
+}
+
+// A message of one kind.
+pub enum Message {
+    PNam(PNam),
+    PLoc(PLoc),
+}
+
+// A message with the cursor behind its body; a content type of no kind that is read; a body that cannot be read.
+pub enum MessageRead {
+    Read(Message, Cursor),
+    Unknown,
+    Refused(u8),
+}
+
+impl Message {
+    pub fn read_from_bytes(content_type: u32, body: &[u8]) -> MessageRead
+        ensures { λ r. ⌜ messageSays r ≡ readBody PINF «content_type» (now (body .entry)) ⌝ }
+    {
+        match content_type {
+            PNam::CONTENT_TYPE => match PNam::read_from_bytes(body) {
+                PNamRead::Read(m, c) => MessageRead::Read(Message::PNam(m), c),
+                PNamRead::Refused(n) => MessageRead::Refused(n),
+            },
+            PLoc::CONTENT_TYPE => match PLoc::read_from_bytes(body) {
+                PLocRead::Read(m, c) => MessageRead::Read(Message::PLoc(m), c),
+                PLocRead::Refused(n) => MessageRead::Refused(n),
+            },
+            _ => MessageRead::Unknown,
+        }
+    }
+}

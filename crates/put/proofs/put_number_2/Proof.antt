@@ -1,0 +1,15 @@
+use borrow.Author.Needs.{needs}
+use Rattle.format.specs.Format.{encode, encodeNumber}
+use Rattle.put.proofs.Writing.{put-then}
+use Rattle.put.proofs.put_number_2.Statement.{statement}
+use Rattle.put.proofs.put_number_2.Tie as tie
+
+returns : tie.Need-returns
+unfolding encode encodeNumber
+returns c =
+    let b = c .before .before in
+    let a = b .before .before .before .before in
+    record { writes = put-then (a .put-byte .ensures) (b .put-byte2 .ensures) }
+
+pub put-number-2-spec : {M : Type 1} → statement M
+put-number-2-spec = tie.close (tie.spec (λ c. search needs) (λ c κs. tt) (λ c. search needs) (λ c κs. tt) (λ c. search needs) returns)

@@ -1,0 +1,45 @@
+-- What a write at a place of an output does, its number, and what a body's writer answers.
+use Prim.Native.Nat.{ℕ, zero, suc, _+_, min, max}
+use mathlib.Core.Path.{_≡_}
+use mathlib.Core.Bool.{Bool}
+use mathlib.Core.List.{List}
+use lib.ListN.{length}
+use lib.Seq.{sets}
+use Rattle.format.specs.Format.{Format, Value, encode}
+use Rattle.format.specs.Fault.{holdsZero, tooLong, weighed}
+use Rattle.put.specs.declared.Put.{Put}
+
+-- bytes at a place of the output before, as far as it reaches: the place where the write stops, and the output after it
+pub record Puts (bytes : List ℕ) (at : ℕ) (before : List ℕ) (place : ℕ) (after : List ℕ) : Type 0 where
+  pub stops : place ≡ min (at + length bytes) (max at (length before))
+  pub stored : after ≡ sets before at bytes
+
+-- the same of a value of a format
+pub record Writes (f : Format) (v : Value f) (at : ℕ) (before : List ℕ) (place : ℕ) (after : List ℕ) : Type 0 where
+  pub writes : Puts (encode f v) at before place after
+
+-- the bytes of the largest packet
+abbrev pub limit : ℕ
+limit = 16777216
+
+-- a number of bytes; past the largest packet the next one stands for them all, so that no sum of the code wraps
+abbrev pub capped : ℕ → ℕ
+capped n = min n 16777217
+
+-- the number of a write of len bytes at a place of an output of room bytes
+pub record Weighs (number : ℕ) (zeros long : Bool) (at len room : ℕ) : Type 0 where
+  pub weighs : number ≡ weighed limit zeros long (at + len) room
+
+-- what a writer of this number answers, and the output: with 0 the bytes stand at the place, and the answer's place is behind them;
+-- with any other number place and output are what they were
+abbrev pub settled : (number at : ℕ) (bytes out : List ℕ) → Put × List ℕ
+settled zero at bytes out = (record { number = 0; at = at + length bytes }, sets out at bytes)
+settled (suc n) at bytes out = (record { number = suc n; at = at }, out)
+
+-- a value at a place, where `zeros` says that a string holds a zero, and `long` that a list, or a count that is declared, is too long
+unfoldable pub putJudged : (zeros long : Bool) (f : Format) → Value f → (at : ℕ) (out : List ℕ) → Put × List ℕ
+putJudged zeros long f v at out = settled (weighed limit zeros long (at + length (encode f v)) (length out)) at (encode f v) out
+
+-- a body at a place: what its `write_to_bytes` answers, and the output after it
+abbrev pub putAt : (f : Format) → Value f → (at : ℕ) (out : List ℕ) → Put × List ℕ
+putAt f v at out = putJudged (holdsZero f v) (tooLong f v) f v at out

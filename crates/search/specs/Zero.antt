@@ -1,0 +1,20 @@
+-- How much stands before the zero that ends a string.
+use Prim.Native.Nat.{ℕ, suc, _+_, _*_}
+use mathlib.Core.Bool.{Bool, true, false}
+use mathlib.Core.List.{List, [], _∷_}
+use lib.Dec.{eqb}
+
+abbrev pub unless : Bool → ℕ → ℕ
+unless true n = 0
+unless false n = n
+
+-- the bytes before the first zero byte; all, if there is none
+unfoldable pub beforeZero : List ℕ → ℕ
+beforeZero [] = 0
+beforeZero (b ∷ s) = unless (eqb b 0) (suc (beforeZero s))
+
+-- the 16-bit units before the first zero unit; all, if there is none; a lone last byte is no unit
+unfoldable pub unitsBeforeZero : List ℕ → ℕ
+unitsBeforeZero [] = 0
+unitsBeforeZero (b ∷ []) = 0
+unitsBeforeZero (b ∷ c ∷ s) = unless (eqb (b + 256 * c) 0) (suc (unitsBeforeZero s))

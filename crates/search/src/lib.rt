@@ -1,0 +1,297 @@
+// Where a string ends: its zero byte, or its zero 16-bit unit, found by blocks. A block is folded without a way out, so that the compiler takes
+// many bytes at a time; a hit in a block claims nothing, the bytes are then looked at one by one.
+ghost use Prim.Native.Nat.{ℕ, _+_, _*_, _<_, _≤_, min};
+ghost use mathlib.Core.Path.{_≡_};
+ghost use lib.ListN.{length, drop};
+ghost use Rattle.search.specs.Zero.{beforeZero, unitsBeforeZero};
+ghost use Rattle.search.specs.Free.{byteOf, unitOf, Rows, Free, First};
+
+fn smaller(a: usize, b: usize) -> usize
+    ensures { λ r. ⌜ r ≡ min a b ⌝ }
+{
+    if a < b { a } else { b }
+}
+
+// ---- bytes
+
+fn least(a: u8, b: u8) -> u8
+    ensures { λ r. ⌜ (r ≤ a) × (r ≤ b) ⌝ }
+{
+    if b < a { b } else { a }
+}
+
+// The least of the bytes at k and k + 16.
+fn least_of_2(s: &[u8], k: usize) -> u8
+    requires { do ⌜ k + 16 < (← ⟦s.len()⟧) ⌝ }
+    ensures { λ r. ⌜ ((r ≡ 0 → ⊥) → Rows (byteOf (now (s .entry))) k 2) ⌝ }
+{
+    least(s[k], s[k + 16])
+}
+
+// The least of the four bytes at k, k + 16, k + 32, k + 48, and so on below.
+fn least_of_4(s: &[u8], k: usize) -> u8
+    requires { do ⌜ k + 48 < (← ⟦s.len()⟧) ⌝ }
+    ensures { λ r. ⌜ ((r ≡ 0 → ⊥) → Rows (byteOf (now (s .entry))) k 4) ⌝ }
+{
+    least(least_of_2(s, k), least_of_2(s, k + 32))
+}
+
+fn least_of_8(s: &[u8], k: usize) -> u8
+    requires { do ⌜ k + 112 < (← ⟦s.len()⟧) ⌝ }
+    ensures { λ r. ⌜ ((r ≡ 0 → ⊥) → Rows (byteOf (now (s .entry))) k 8) ⌝ }
+{
+    least(least_of_4(s, k), least_of_4(s, k + 64))
+}
+
+fn least_of_16(s: &[u8], k: usize) -> u8
+    requires { do ⌜ k + 240 < (← ⟦s.len()⟧) ⌝ }
+    ensures { λ r. ⌜ ((r ≡ 0 → ⊥) → Rows (byteOf (now (s .entry))) k 16) ⌝ }
+{
+    least(least_of_8(s, k), least_of_8(s, k + 128))
+}
+
+// 0 only if none of the 256 bytes from i on is zero.
+fn zero_in_256(s: &[u8], i: usize) -> u8
+    requires { do ⌜ i + 256 ≤ (← ⟦s.len()⟧) ⌝ }
+    ensures { λ r. ⌜ (r ≡ 0 → Free (byteOf (now (s .entry))) i (i + 256)) ⌝ }
+{
+    let mut hit: u8 = 0;
+    let mut j = 0;
+    while j < 16 {
+        if least_of_16(s, i + j) == 0 {
+            hit = 1;
+        }
+        j += 1;
+    }
+    hit
+}
+
+// The same of 16 bytes.
+fn zero_in_16(s: &[u8], i: usize) -> u8
+    requires { do ⌜ i + 16 ≤ (← ⟦s.len()⟧) ⌝ }
+    ensures { λ r. ⌜ (r ≡ 0 → Free (byteOf (now (s .entry))) i (i + 16)) ⌝ }
+{
+    let mut hit: u8 = 0;
+    let mut j = 0;
+    while j < 16 {
+        if s[i + j] == 0 {
+            hit = 1;
+        }
+        j += 1;
+    }
+    hit
+}
+
+// Past the whole blocks of 256 bytes without a zero.
+fn pass_256(s: &[u8], from: usize) -> usize
+    requires { do ⌜ from ≤ (← ⟦s.len()⟧) ⌝ }
+    ensures passed { λ r. ⌜ Free (byteOf (now (s .entry))) from r ⌝ }
+    ensures within { λ r. do ⌜ r ≤ (← ⟦s.len()⟧ .entry) ⌝ }
+{
+    let mut i = from;
+    while 256 <= s.len() - i {
+        if zero_in_256(s, i) != 0 {
+            return i;
+        }
+        i += 256;
+    }
+    i
+}
+
+// The same of 16 bytes.
+fn pass_16(s: &[u8], from: usize) -> usize
+    requires { do ⌜ from ≤ (← ⟦s.len()⟧) ⌝ }
+    ensures passed { λ r. ⌜ Free (byteOf (now (s .entry))) from r ⌝ }
+    ensures within { λ r. do ⌜ r ≤ (← ⟦s.len()⟧ .entry) ⌝ }
+{
+    let mut i = from;
+    while 16 <= s.len() - i {
+        if zero_in_16(s, i) != 0 {
+            return i;
+        }
+        i += 16;
+    }
+    i
+}
+
+// The first zero of the eight bytes from i on, or i + 8.
+fn first_of_8(s: &[u8], i: usize) -> usize
+    requires { do ⌜ i + 8 ≤ (← ⟦s.len()⟧) ⌝ }
+    ensures { λ r. ⌜ First (byteOf (now (s .entry))) i (i + 8) r ⌝ }
+{
+    let mut j = 0;
+    while j < 8 {
+        if s[i + j] == 0 {
+            return i + j;
+        }
+        j += 1;
+    }
+    i + 8
+}
+
+// The first zero of the bytes from `from` up to `stop`, or `stop`.
+fn first_one_by_one(s: &[u8], from: usize, stop: usize) -> usize
+    requires { do ⌜ (from ≤ stop) × (stop ≤ (← ⟦s.len()⟧)) ⌝ }
+    ensures { λ r. ⌜ First (byteOf (now (s .entry))) from stop r ⌝ }
+{
+    let mut i = from;
+    while i < stop {
+        if s[i] == 0 {
+            return i;
+        }
+        i += 1;
+    }
+    i
+}
+
+// The same by eights.
+fn first_by_eights(s: &[u8], from: usize, stop: usize) -> usize
+    requires { do ⌜ (from ≤ stop) × (stop ≤ (← ⟦s.len()⟧)) ⌝ }
+    ensures { λ r. ⌜ First (byteOf (now (s .entry))) from stop r ⌝ }
+{
+    let mut i = from;
+    while 8 <= stop - i {
+        let r = first_of_8(s, i);
+        if r < i + 8 {
+            return r;
+        }
+        i += 8;
+    }
+    first_one_by_one(s, i, stop)
+}
+
+// The index of the first zero byte at or behind `at`; without one the length, or `at` where that is past the end.
+pub fn first_zero(s: &[u8], at: usize) -> usize
+    ensures { λ r. ⌜ r ≡ at + beforeZero (drop at (now (s .entry))) ⌝ }
+{
+    let mut i = at;
+    while i < s.len() {
+        if s[i] == 0 {
+            return i;
+        }
+        let stop = smaller(i + 25, s.len());
+        let r = first_by_eights(s, i + 1, stop);
+        if r < stop {
+            return r;
+        }
+        i = pass_16(s, pass_256(s, stop));
+    }
+    i
+}
+
+// ---- units; `at` is where the first one starts
+
+fn unit(low: u8, high: u8) -> u16
+    ensures { λ r. ⌜ r ≡ low + 256 * high ⌝ }
+{
+    (low as u16) + 256 * (high as u16)
+}
+
+fn unit_at(s: &[u8], at: usize, n: usize) -> u16
+    requires { do ⌜ at + 2 * n + 1 < (← ⟦s.len()⟧) ⌝ }
+    ensures { λ r. ⌜ r ≡ unitOf (now (s .entry)) at n ⌝ }
+{
+    let k = at + 2 * n;
+    unit(s[k], s[k + 1])
+}
+
+// 0 only if none of `count` units from the n-th on is zero.
+fn zero_in_units(s: &[u8], at: usize, n: usize, count: usize) -> u8
+    requires { do ⌜ at + 2 * n + 2 * count ≤ (← ⟦s.len()⟧) ⌝ }
+    ensures { λ r. ⌜ (r ≡ 0 → Free (unitOf (now (s .entry)) at) n (n + count)) ⌝ }
+{
+    let mut hit: u8 = 0;
+    let mut j = 0;
+    while j < count {
+        if unit_at(s, at, n + j) == 0 {
+            hit = 1;
+        }
+        j += 1;
+    }
+    hit
+}
+
+// Past the whole blocks of `count` units without a zero.
+fn pass_units(s: &[u8], at: usize, from: usize, count: usize) -> usize
+    requires { do ⌜ (at + 2 * from ≤ (← ⟦s.len()⟧)) × (0 < count) × (count ≤ 64) ⌝ }
+    ensures passed { λ r. ⌜ Free (unitOf (now (s .entry)) at) from r ⌝ }
+    ensures within { λ r. do ⌜ at + 2 * r ≤ (← ⟦s.len()⟧ .entry) ⌝ }
+{
+    let mut n = from;
+    while 2 * count <= s.len() - (at + 2 * n) {
+        if zero_in_units(s, at, n, count) != 0 {
+            return n;
+        }
+        n += count;
+    }
+    n
+}
+
+// The first zero of the four units from the n-th on, or n + 4.
+fn first_of_4_units(s: &[u8], at: usize, n: usize) -> usize
+    requires { do ⌜ at + 2 * n + 8 ≤ (← ⟦s.len()⟧) ⌝ }
+    ensures { λ r. ⌜ First (unitOf (now (s .entry)) at) n (n + 4) r ⌝ }
+{
+    let mut j = 0;
+    while j < 4 {
+        if unit_at(s, at, n + j) == 0 {
+            return n + j;
+        }
+        j += 1;
+    }
+    n + 4
+}
+
+// The first zero of the units from `from` up to `stop`, or `stop`.
+fn first_unit_one_by_one(s: &[u8], at: usize, from: usize, stop: usize) -> usize
+    requires { do ⌜ (from ≤ stop) × (at + 2 * stop ≤ (← ⟦s.len()⟧)) ⌝ }
+    ensures { λ r. ⌜ First (unitOf (now (s .entry)) at) from stop r ⌝ }
+{
+    let mut n = from;
+    while n < stop {
+        if unit_at(s, at, n) == 0 {
+            return n;
+        }
+        n += 1;
+    }
+    n
+}
+
+// The same by fours.
+fn first_unit_by_fours(s: &[u8], at: usize, from: usize, stop: usize) -> usize
+    requires { do ⌜ (from ≤ stop) × (at + 2 * stop ≤ (← ⟦s.len()⟧)) ⌝ }
+    ensures { λ r. ⌜ First (unitOf (now (s .entry)) at) from stop r ⌝ }
+{
+    let mut n = from;
+    while 4 <= stop - n {
+        let r = first_of_4_units(s, at, n);
+        if r < n + 4 {
+            return r;
+        }
+        n += 4;
+    }
+    first_unit_one_by_one(s, at, n, stop)
+}
+
+// The number of units from `at` on before the first zero unit, or of all; a lone last byte is no unit.
+pub fn units_before_zero(s: &[u8], at: usize) -> usize
+    ensures { λ r. ⌜ r ≡ unitsBeforeZero (drop at (now (s .entry))) ⌝ }
+{
+    if s.len() < at {
+        return 0;
+    }
+    let count = (s.len() - at) / 2;
+    let mut n = 0;
+    while n < count {
+        if unit_at(s, at, n) == 0 {
+            return n;
+        }
+        let stop = smaller(n + 13, count);
+        let r = first_unit_by_fours(s, at, n + 1, stop);
+        if r < stop {
+            return r;
+        }
+        n = pass_units(s, at, pass_units(s, at, stop, 64), 8);
+    }
+    n
+}

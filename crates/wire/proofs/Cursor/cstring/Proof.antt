@@ -1,0 +1,23 @@
+use native.Mathlib.Omega.{arith}
+use borrow.Author.Needs.{needs}
+use Rattle.wire.proofs.Strings.{cstring-there, cstring-none}
+use Rattle.wire.proofs.Cursor.cstring.Statement.{statement}
+use Rattle.wire.proofs.Cursor.cstring.Tie as tie
+
+first-zero-requires : tie.Need-first-zero-requires
+first-zero-requires c κs = search needs
+
+sub-t7 : tie.Need-sub-t7
+sub-t7 c = omega arith
+
+add-t9 : tie.Need-add-t9
+add-t9 c = omega arith
+
+returns : tie.Need-returns
+returns c = cstring-there _ _ (c .before .first-zero .ensures) (c .if1 .taken)
+
+returns-2 : tie.Need-returns-2
+returns-2 c = cstring-none _ _ (c .before .first-zero .ensures) (c .if1 .left)
+
+pub cstring-spec : {M : Type 1} → statement M
+cstring-spec = tie.close (tie.spec first-zero-requires sub-t7 add-t9 returns returns-2)

@@ -1,0 +1,25 @@
+use borrow.Author.Needs.{needs}
+use Rattle.format.specs.Format.{number}
+use Rattle.format.proofs.Chain.{met}
+use Rattle.wire.specs.Says.{itemsSays}
+use Rattle.wire.proofs.Plain.{list-of}
+use Rattle.wire.proofs.Cursor.u16_list.Statement.{statement}
+use Rattle.wire.proofs.Cursor.u16_list.Tie as tie
+
+items-requires : tie.Need-items-requires
+items-requires c κs = search needs
+
+enum-known-x : tie.Need-enum-known-x
+enum-known-x c = search needs
+
+enum-told : tie.Need-enum-told
+enum-told c = search needs
+
+returns : tie.Need-returns
+returns c = list-of (number 2) tt _ _ (met itemsSays (c .before .before .items .ensures) (c .enum-told .given .1))
+
+returns-2 : tie.Need-returns-2
+returns-2 c = list-of (number 2) tt _ _ (met itemsSays (c .before .before .before .items .ensures) (c .before .x .given .1))
+
+pub u16-list-spec : {M : Type 1} → statement M
+u16-list-spec = tie.close (tie.spec items-requires enum-known-x enum-told returns returns-2)

@@ -1,0 +1,60 @@
+-- A number is there where its bytes are: a law over its width.
+use Prim.Native.Nat.{ℕ, zero, suc, _+_, _-_, _*_, _/_, _<_, _≤_}
+use mathlib.Core.Path.{_≡_, refl, _∙_}
+use mathlib.Core.Bool.{Bool, true, false}
+use mathlib.Core.List.{List}
+use native.Mathlib.Nat.{add-zero, le-div-iff-mul-le, div-lt-iff-lt-mul}
+use native.Mathlib.Numerals.{add-one, add-two, add-three}
+use native.Mathlib.Omega.{arith}
+use lib.ListN.{length, drop, getD, length-drop}
+use lib.Seq.{drop-cons}
+use lib.Dec.{leb}
+use borrow.Author.Tests.{le-leb, lt-leb, leb-true, leb-false}
+use Rattle.format.specs.Format.{number, got, refused, decodeNumber, decode, size}
+use Rattle.format.specs.View.{seen, missed, view, placed, place}
+use Rattle.format.proofs.Passing.{plain-short}
+
+-- the number of w bytes at an offset, the lowest first
+abbrev pub numberAt : ℕ → List ℕ → ℕ → ℕ
+numberAt zero s at = 0
+numberAt (suc w) s at = getD s at 0 + 256 * numberAt w s (suc at)
+
+decoded : (w : ℕ) (s : List ℕ) (at : ℕ) → w ≤ length s - at → decodeNumber w (drop at s) ≡ got (numberAt w s at) (drop (at + w) s)
+unfolding decodeNumber
+decoded zero s at h = rw add-zero
+decoded (suc w) s at h =
+    let here : at < length s = omega arith in
+    let behind : suc at + w ≡ at + suc w = omega arith in
+    rw (drop-cons s at 0 here, decoded w s (suc at) (omega arith), behind)
+
+module _ (w : ℕ) (s : List ℕ) (at : ℕ) where
+  pub number-there : w ≤ length s - at → view (number w) s at ≡ seen (numberAt w s at) (at + w)
+  unfolding view placed place size decode
+  number-there h = rw (decoded w s at h)
+
+  pub number-short : length s - at < w → missed 7 ≡ view (number w) s at
+  unfolding view placed
+  number-short h = rw (plain-short (number w) tt (drop at s) (omega (arith, length-drop at s)))
+
+  number-is : {n : ℕ} → w ≤ length s - at → n ≡ numberAt w s at → seen n (at + w) ≡ view (number w) s at
+  number-is h e = rw (number-there h, e)
+
+-- from the bytes as a reader finds them
+module _ (s : List ℕ) (at : ℕ) {n : ℕ} where
+  pub number-1 : 1 ≤ length s - at → n ≡ getD s at 0 → seen n (at + 1) ≡ view (number 1) s at
+  number-1 h e = number-is 1 s at h (omega arith)
+
+  pub number-2 : 2 ≤ length s - at → n ≡ getD s at 0 + 256 * getD s (at + 1) 0 → seen n (at + 2) ≡ view (number 2) s at
+  number-2 h e = number-is 2 s at h (e ∙ rw add-one (omega arith))
+
+  pub number-4 : 4 ≤ length s - at → n ≡ getD s at 0 + 256 * getD s (at + 1) 0 + 65536 * getD s (at + 2) 0 + 16777216 * getD s (at + 3) 0 →
+      seen n (at + 4) ≡ view (number 4) s at
+  number-4 h e = number-is 4 s at h (e ∙ rw (add-one, add-two, add-three) (omega arith))
+
+-- a product weighed by a quotient
+pub leb-div : (n w b : ℕ) → 0 < w → leb n (b / w) ≡ leb (n * w) b
+leb-div n w b h = by (leb (n * w) b) refl
+  where
+    by : (z : Bool) → leb (n * w) b ≡ z → leb n (b / w) ≡ z
+    by true e = le-leb n (b / w) (le-div-iff-mul-le h .1 (leb-true (n * w) b e))
+    by false e = lt-leb n (b / w) (div-lt-iff-lt-mul h .1 (leb-false (n * w) b e))
