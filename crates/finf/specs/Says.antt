@@ -38,12 +38,15 @@ abbrev pub framSays : FramRead → Seen (View fram)
 framSays (fram-read.Read x c) = seen (framView x) (c .at)
 framSays (fram-read.Refused n) = missed n
 
--- a message and the bytes taken
-abbrev pub messageBody : Message → ℕ → Body View
-messageBody (message.SFra x) taken = known kind.SFra (sfraView x) taken
-messageBody (message.Fram x) taken = known kind.Fram (framView x) taken
+abbrev pub messageKind : Message → kind.Kind
+messageKind (message.SFra x) = kind.SFra
+messageKind (message.Fram x) = kind.Fram
+
+abbrev pub messageView : (m : Message) → View (bodyOf (messageKind m))
+messageView (message.SFra x) = sfraView x
+messageView (message.Fram x) = framView x
 
 abbrev pub messageSays : MessageRead → Body View
-messageSays (answer.Read m c) = messageBody m (c .at)
+messageSays (answer.Read m c) = known (messageKind m) (messageView m) (c .at)
 messageSays answer.Unknown = unread
 messageSays (answer.Refused n) = refusedWith n

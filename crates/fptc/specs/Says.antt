@@ -52,13 +52,17 @@ abbrev pub sptcSays : SPtcRead → Seen (View sptc)
 sptcSays (sptc-read.Read x c) = seen (sptcView x) (c .at)
 sptcSays (sptc-read.Refused n) = missed n
 
--- a message and the bytes taken
-abbrev pub messageBody : Message → ℕ → Body View
-messageBody (message.Ptch x) taken = known kind.Ptch (ptchView x) taken
-messageBody (message.UPtc x) taken = known kind.UPtc (uptcView x) taken
-messageBody (message.SPtc x) taken = known kind.SPtc (sptcView x) taken
+abbrev pub messageKind : Message → kind.Kind
+messageKind (message.Ptch x) = kind.Ptch
+messageKind (message.UPtc x) = kind.UPtc
+messageKind (message.SPtc x) = kind.SPtc
+
+abbrev pub messageView : (m : Message) → View (bodyOf (messageKind m))
+messageView (message.Ptch x) = ptchView x
+messageView (message.UPtc x) = uptcView x
+messageView (message.SPtc x) = sptcView x
 
 abbrev pub messageSays : MessageRead → Body View
-messageSays (answer.Read m c) = messageBody m (c .at)
+messageSays (answer.Read m c) = known (messageKind m) (messageView m) (c .at)
 messageSays answer.Unknown = unread
 messageSays (answer.Refused n) = refusedWith n

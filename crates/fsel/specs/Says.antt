@@ -38,12 +38,15 @@ abbrev pub deseSays : DeSeRead → Seen (View dese)
 deseSays (dese-read.Read x c) = seen (deseView x) (c .at)
 deseSays (dese-read.Refused n) = missed n
 
--- a message and the bytes taken
-abbrev pub messageBody : Message → ℕ → Body View
-messageBody (message.Sele x) taken = known kind.Sele (seleView x) taken
-messageBody (message.DeSe x) taken = known kind.DeSe (deseView x) taken
+abbrev pub messageKind : Message → kind.Kind
+messageKind (message.Sele x) = kind.Sele
+messageKind (message.DeSe x) = kind.DeSe
+
+abbrev pub messageView : (m : Message) → View (bodyOf (messageKind m))
+messageView (message.Sele x) = seleView x
+messageView (message.DeSe x) = deseView x
 
 abbrev pub messageSays : MessageRead → Body View
-messageSays (answer.Read m c) = messageBody m (c .at)
+messageSays (answer.Read m c) = known (messageKind m) (messageView m) (c .at)
 messageSays answer.Unknown = unread
 messageSays (answer.Refused n) = refusedWith n

@@ -38,12 +38,15 @@ abbrev pub plocSays : PLocRead → Seen (View ploc)
 plocSays (ploc-read.Read x c) = seen (plocView x) (c .at)
 plocSays (ploc-read.Refused n) = missed n
 
--- a message and the bytes taken
-abbrev pub messageBody : Message → ℕ → Body View
-messageBody (message.PNam x) taken = known kind.PNam (pnamView x) taken
-messageBody (message.PLoc x) taken = known kind.PLoc (plocView x) taken
+abbrev pub messageKind : Message → kind.Kind
+messageKind (message.PNam x) = kind.PNam
+messageKind (message.PLoc x) = kind.PLoc
+
+abbrev pub messageView : (m : Message) → View (bodyOf (messageKind m))
+messageView (message.PNam x) = pnamView x
+messageView (message.PLoc x) = plocView x
 
 abbrev pub messageSays : MessageRead → Body View
-messageSays (answer.Read m c) = messageBody m (c .at)
+messageSays (answer.Read m c) = known (messageKind m) (messageView m) (c .at)
 messageSays answer.Unknown = unread
 messageSays (answer.Refused n) = refusedWith n

@@ -53,15 +53,16 @@ readBody l type s = bodyAs (kindOf l type) s
 
 -- ---- one packet, cut out of the stream
 
--- the added bytes are the packet's size less headers less bytes taken
-abbrev pub contentOf : (l : Layer) (at extent type hint : ℕ) → Body View → Content View
-contentOf l at extent type hint (known k v taken) = message k (at + headerLength l) (hinted l hint) v (extent - headerLength l - taken)
-contentOf l at extent type hint unread = unknown (cookie l) (some type)
-contentOf l at extent type hint (refusedWith n) = refusal n
+-- a body that starts at an offset of the stream, with so many bytes up to the packet's end: those that were not taken are the added ones
+abbrev pub contentOf : (l : Layer) (start extent type hint : ℕ) → Body View → Content View
+contentOf l start extent type hint (known k v taken) = message k start (hinted l hint) v (extent - taken)
+contentOf l start extent type hint unread = unknown (cookie l) (some type)
+contentOf l start extent type hint (refusedWith n) = refusal n
 
 abbrev pub readLayerHeader : (l : Layer) (at : ℕ) (packet : List ℕ) → Read (Value (layerHeader l)) → Content View
 readLayerHeader l at packet (refused n) = refusal 6
-readLayerHeader l at packet (got t rest) = contentOf l at (length packet) (t .0) (t .1) (readBody l (t .0) (drop (headerLength l) packet))
+readLayerHeader l at packet (got t rest) =
+    contentOf l (at + headerLength l) (length packet - headerLength l) (t .0) (t .1) (readBody l (t .0) (drop (headerLength l) packet))
 
 -- an unknown layer; else a packet shorter than its headers; else by the content type
 abbrev pub readLayer : (at c : ℕ) (packet : List ℕ) → Option Layer → Content View

@@ -98,15 +98,21 @@ abbrev pub sxusSays : SxusRead → Seen (View sxus)
 sxusSays (sxus-read.Read x c) = seen (sxusView x) (c .at)
 sxusSays (sxus-read.Refused n) = missed n
 
--- a message and the bytes taken
-abbrev pub messageBody : Message → ℕ → Body View
-messageBody (message.Capa x) taken = known kind.Capa (capaView x) taken
-messageBody (message.UNam x) taken = known kind.UNam (unamView x) taken
-messageBody (message.ChBk x) taken = known kind.ChBk (chbkView x) taken
-messageBody (message.ChLs x) taken = known kind.ChLs (chlsView x) taken
-messageBody (message.Sxus x) taken = known kind.Sxus (sxusView x) taken
+abbrev pub messageKind : Message → kind.Kind
+messageKind (message.Capa x) = kind.Capa
+messageKind (message.UNam x) = kind.UNam
+messageKind (message.ChBk x) = kind.ChBk
+messageKind (message.ChLs x) = kind.ChLs
+messageKind (message.Sxus x) = kind.Sxus
+
+abbrev pub messageView : (m : Message) → View (bodyOf (messageKind m))
+messageView (message.Capa x) = capaView x
+messageView (message.UNam x) = unamView x
+messageView (message.ChBk x) = chbkView x
+messageView (message.ChLs x) = chlsView x
+messageView (message.Sxus x) = sxusView x
 
 abbrev pub messageSays : MessageRead → Body View
-messageSays (answer.Read m c) = messageBody m (c .at)
+messageSays (answer.Read m c) = known (messageKind m) (messageView m) (c .at)
 messageSays answer.Unknown = unread
 messageSays (answer.Refused n) = refusedWith n

@@ -45,13 +45,15 @@ first-free x h = let w = x .within in free-to (x .passed) (omega arith)
 pub row-one : (f : ℕ → ℕ) (k : ℕ) → (f k ≡ 0 → ⊥) → Rows f k 1
 row-one f k n = record { free = λ l h z. let e : k + 16 * l ≡ k = omega arith in n (subst (λ (x : ℕ). f x ≡ 0) e z) }
 
-pub rows-least : {f : ℕ → ℕ} {k : ℕ} (m : ℕ) {a b r : ℕ} → (r ≤ a) × (r ≤ b) → ((a ≡ 0 → ⊥) → Rows f k m) → ((b ≡ 0 → ⊥) → Rows f (k + 16 * m) m) →
+pub rows-least : {f : ℕ → ℕ} {k : ℕ} (m : ℕ) {a b r : ℕ} → (r ≤ a) × (r ≤ b) →
+    ((a ≡ 0 → ⊥) → Rows f k m) → ((b ≡ 0 → ⊥) → Rows f (k + 16 * m) m) →
     (r ≡ 0 → ⊥) → Rows f k (m + m)
 rows-least {f} {k} m low first next n = record { free = all }
   where
     all : (l : ℕ) → l < m + m → f (k + 16 * l) ≡ 0 → ⊥
     all l h z = split m l ⊥
-        (λ g. let e : k + 16 * l ≡ k + 16 * m + 16 * (l - m) = omega arith in next (λ y. n (omega arith)) .free (l - m) (omega arith) (subst (λ (x : ℕ). f x ≡ 0) e z))
+        (λ g. let e : k + 16 * l ≡ k + 16 * m + 16 * (l - m) = omega arith in
+        next (λ y. n (omega arith)) .free (l - m) (omega arith) (subst (λ (x : ℕ). f x ≡ 0) e z))
         (λ g. first (λ y. n (omega arith)) .free l g z)
 
 -- m rows of sixteen, free in each of the sixteen columns

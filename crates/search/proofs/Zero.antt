@@ -26,7 +26,8 @@ next-unit b c t k =
     let high : suc (suc (0 + 2 * k)) + 1 ≡ suc (suc (0 + 2 * k + 1)) = omega arith in
     rw (low, high)
 
-units-counted : (t : List ℕ) (n : ℕ) → ((k : ℕ) → k < n → unitOf t 0 k ≡ 0 → ⊥) → 2 * n ≤ length t → (2 * n + 1 < length t → unitOf t 0 n ≡ 0) → n ≡ unitsBeforeZero t
+units-counted : (t : List ℕ) (n : ℕ) → ((k : ℕ) → k < n → unitOf t 0 k ≡ 0 → ⊥) →
+    2 * n ≤ length t → (2 * n + 1 < length t → unitOf t 0 n ≡ 0) → n ≡ unitsBeforeZero t
 unfolding unitsBeforeZero
 units-counted [] zero free within ends = refl
 units-counted [] (suc n) free within ends = absurd (omega arith)
@@ -34,7 +35,8 @@ units-counted (b ∷ []) zero free within ends = refl
 units-counted (b ∷ []) (suc n) free within ends = absurd (omega arith)
 units-counted (b ∷ c ∷ t) zero free within ends = rw (eq-eqb (b + 256 * c) 0 (ends (omega arith)))
 units-counted (b ∷ c ∷ t) (suc n) free within ends =
-    let rest = units-counted t n (λ k h z. free (suc k) (omega arith) (next-unit b c t k ∙ z)) (omega arith) (λ h. sym (next-unit b c t n) ∙ ends (omega arith)) in
+    let passed : (k : ℕ) → k < n → unitOf t 0 k ≡ 0 → ⊥ = λ k h z. free (suc k) (omega arith) (next-unit b c t k ∙ z) in
+    let rest = units-counted t n passed (omega arith) (λ h. sym (next-unit b c t n) ∙ ends (omega arith)) in
     rw (ne-eqb (b + 256 * c) 0 (free 0 (omega arith))) (ap suc rest)
 
 module _ (s : List ℕ) (at : ℕ) where
@@ -52,7 +54,8 @@ module _ (s : List ℕ) (at : ℕ) where
       let high : at + (0 + 2 * k + 1) ≡ at + 2 * k + 1 = omega arith in
       rw (getD-drop at s (0 + 2 * k) 0, getD-drop at s (0 + 2 * k + 1) 0, low, high)
 
-  pub units-are : {n : ℕ} → Free (unitOf s at) 0 n → at + 2 * n ≤ max at (length s) → (at + 2 * n + 1 < length s → unitOf s at n ≡ 0) → n ≡ unitsBeforeZero (drop at s)
+  pub units-are : {n : ℕ} → Free (unitOf s at) 0 n → at + 2 * n ≤ max at (length s) →
+      (at + 2 * n + 1 < length s → unitOf s at n ≡ 0) → n ≡ unitsBeforeZero (drop at s)
   units-are {n} x within ends =
       units-counted (drop at s) n
       (λ k h z. x .free k (omega arith) h (sym (dropped k) ∙ z))

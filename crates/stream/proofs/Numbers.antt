@@ -1,5 +1,5 @@
 -- On every slice the walk ends; and every refusal has a number of the table for its place.
-use Prim.Native.Nat.{ℕ, _+_, _≤_, _<_}
+use Prim.Native.Nat.{ℕ, _+_, _-_, _≤_, _<_}
 use mathlib.Core.Path.{_≡_, refl}
 use mathlib.Core.Bool.{Bool, true, false, not, _||_}
 use mathlib.Core.List.{List}
@@ -56,21 +56,21 @@ row-pick : (b : Bool) (x y : Content View) → Row x → Row y → Row (pick b x
 row-pick true x y h k = h
 row-pick false x y h k = k
 
-row-seen : (l : Layer) (at extent type hint : ℕ) (k : Kind) (r : Read (Value (bodyOf k))) → Refuses (λ n. (7 ≤ n) × (n ≤ highest k)) r
-    → Row (contentOf l at extent type hint (bodySeen k (placed (bodyOf k) 0 r)))
+row-seen : (l : Layer) (start extent type hint : ℕ) (k : Kind) (r : Read (Value (bodyOf k))) → Refuses (λ n. (7 ≤ n) × (n ≤ highest k)) r
+    → Row (contentOf l start extent type hint (bodySeen k (placed (bodyOf k) 0 r)))
 unfolding placed
-row-seen l at extent type hint k r reads = tt
-row-seen l at extent type hint k r (refuses h) = (omega (arith, h .0), omega (arith, h .1, at-most k))
+row-seen l start extent type hint k r reads = tt
+row-seen l start extent type hint k r (refuses h) = (omega (arith, h .0), omega (arith, h .1, at-most k))
 
-row-body : (l : Layer) (at extent type hint : ℕ) (s : List ℕ) (x : Option Kind) → Row (contentOf l at extent type hint (bodyAs x s))
+row-body : (l : Layer) (start extent type hint : ℕ) (s : List ℕ) (x : Option Kind) → Row (contentOf l start extent type hint (bodyAs x s))
 unfolding view
-row-body l at extent type hint s none = tt
-row-body l at extent type hint s (some k) =
-    row-seen l at extent type hint k (decode (bodyOf k) (drop 0 s)) (decode-refuses (highest k) (at-least k) (bodyOf k) (codes-within k) (drop 0 s))
+row-body l start extent type hint s none = tt
+row-body l start extent type hint s (some k) =
+    row-seen l start extent type hint k (decode (bodyOf k) (drop 0 s)) (decode-refuses (highest k) (at-least k) (bodyOf k) (codes-within k) (drop 0 s))
 
 row-header : (l : Layer) (at : ℕ) (p : List ℕ) (x : Read (Value (layerHeader l))) → Row (readLayerHeader l at p x)
 unfolding readBody
-row-header l at p (got t rest) = row-body l at (length p) (t .0) (t .1) (drop (headerLength l) p) (kindOf l (t .0))
+row-header l at p (got t rest) = row-body l (at + headerLength l) (length p - headerLength l) (t .0) (t .1) (drop (headerLength l) p) (kindOf l (t .0))
 row-header l at p (refused n) = omega arith
 
 row-layer : (at c : ℕ) (p : List ℕ) (x : Option Layer) → Row (readLayer at c p x)

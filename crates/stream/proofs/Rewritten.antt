@@ -115,7 +115,7 @@ pub record Told (c : ℕ) (p : List ℕ) : Type 0 where
 
 told-body : (c : ℕ) (p : List ℕ) (at : ℕ) (k : Kind) (hint : ℕ) → isRead k ≡ true → LayerRead c p (layer k) (contentType k) hint
     → (x : Read (Value (bodyOf k))) → decode (bodyOf k) (drop (headerLength (layer k)) p) ≡ x
-    → addedIn (contentOf (layer k) at (length p) (contentType k) hint (bodySeen k (placed (bodyOf k) 0 x))) ≡ some 0 → Told c p
+    → addedIn (contentOf (layer k) (at + headerLength (layer k)) (length p - headerLength (layer k)) (contentType k) hint (bodySeen k (placed (bodyOf k) 0 x))) ≡ some 0 → Told c p
 unfolding placed
 told-body c p at k hint r l (got v t) e a = record {
   kind = k;
@@ -130,7 +130,7 @@ told-body c p at k hint r l (got v t) e a = record {
 told-body c p at k hint r l (refused n) e a = absurd (no-some a)
 
 told-kind : (c : ℕ) (p : List ℕ) (at : ℕ) (l : Layer) (type hint : ℕ) → LayerRead c p l type hint → (x : Option Kind) → kindOf l type ≡ x
-    → addedIn (contentOf l at (length p) type hint (bodyAs x (drop (headerLength l) p))) ≡ some 0 → Told c p
+    → addedIn (contentOf l (at + headerLength l) (length p - headerLength l) type hint (bodyAs x (drop (headerLength l) p))) ≡ some 0 → Told c p
 unfolding view
 told-kind c p at l type hint lr none e a = absurd (no-some a)
 told-kind c p at l type hint lr (some k) e a = on l type (found .layer-is) (found .type-is) lr a
@@ -139,9 +139,9 @@ told-kind c p at l type hint lr (some k) e a = on l type (found .layer-is) (foun
     found = kind-known l type k e
 
     on : (l : Layer) (type : ℕ) → layer k ≡ l → contentType k ≡ type → LayerRead c p l type hint
-        → addedIn (contentOf l at (length p) type hint (bodyAs (some k) (drop (headerLength l) p))) ≡ some 0 → Told c p
-    on l type q q′ = subst (λ (j : Layer). (LayerRead c p j type hint → addedIn (contentOf j at (length p) type hint (bodyAs (some k) (drop (headerLength j) p))) ≡ some 0 → Told c p)) q
-        (subst (λ (n : ℕ). (LayerRead c p (layer k) n hint → addedIn (contentOf (layer k) at (length p) n hint (bodyAs (some k) (drop (headerLength (layer k)) p))) ≡ some 0 → Told c p)) q′
+        → addedIn (contentOf l (at + headerLength l) (length p - headerLength l) type hint (bodyAs (some k) (drop (headerLength l) p))) ≡ some 0 → Told c p
+    on l type q q′ = subst (λ (j : Layer). (LayerRead c p j type hint → addedIn (contentOf j (at + headerLength j) (length p - headerLength j) type hint (bodyAs (some k) (drop (headerLength j) p))) ≡ some 0 → Told c p)) q
+        (subst (λ (n : ℕ). (LayerRead c p (layer k) n hint → addedIn (contentOf (layer k) (at + headerLength (layer k)) (length p - headerLength (layer k)) n hint (bodyAs (some k) (drop (headerLength (layer k)) p))) ≡ some 0 → Told c p)) q′
         (λ lr a. told-body c p at k hint (found .is-read) lr (decode (bodyOf k) (drop (headerLength (layer k)) p)) refl a))
 
 told-header : (c : ℕ) (p : List ℕ) (at : ℕ) (l : Layer) → cookie l ≡ c → headerLength l ≤ length p → (x : Read (Value (layerHeader l))) → decode (layerHeader l) (drop 20 p) ≡ x

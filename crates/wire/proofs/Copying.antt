@@ -1,6 +1,6 @@
 -- A string copied: the loop's step, over the list that is copied, and the answer with the output afterwards.
 use Prim.Native.Nat.{ℕ, zero, suc, _+_, _-_, _*_, _<_, _≤_}
-use mathlib.Core.Path.{_≡_, refl, sym, ap, _∙_}
+use mathlib.Core.Path.{_≡_, refl}
 use mathlib.Core.List.{List, [], _∷_, _++_}
 use native.Mathlib.Numerals.{add-one}
 use native.Mathlib.Nat.{zero-add}
@@ -8,19 +8,20 @@ use native.Mathlib.Omega.{arith}
 use borrow.Author.Tests.{lt-ltb, le-ltb}
 use lib.ListN.{length, take, drop, getD, set, length-drop}
 use lib.Seq.{length-take-le, take-all, getD-drop, paste-suc}
-use Rattle.format.specs.Format.{cstring, ucs2, Read, got, refused, decodeCString, decodeUcs2, decode}
+use Rattle.format.specs.Format.{Read, got, refused, decodeCString, decodeUcs2, decode}
 use Rattle.format.specs.View.{unitsOf}
-use Rattle.format.specs.Copy.{Answer, took, denied, copied, copyCString, copyUcs2}
+use Rattle.format.specs.Copy.{took, denied, copied, copyCString, copyUcs2}
 use Rattle.search.specs.Zero.{beforeZero, unitsBeforeZero}
-use Rattle.search.proofs.Zero.{before-within, units-within}
+use Rattle.search.proofs.Zero.{units-within}
 use Rattle.wire.proofs.Strings.{cstring-ends, cstring-unended, ucs2-ends, ucs2-unended, length-units}
 
 -- one element more of xs stands first in the output
-copy-more : (out xs : List ℕ) (i : ℕ) → i < length xs → i < length out → set (take i xs ++ drop i out) i (getD xs i 0) ≡ take (i + 1) xs ++ drop (i + 1) out
+copy-more : (out xs : List ℕ) (i : ℕ) → i < length xs → i < length out →
+    set (take i xs ++ drop i out) i (getD xs i 0) ≡ take (i + 1) xs ++ drop (i + 1) out
 copy-more out xs i h l = rw add-one (simp zero-add at (paste-suc out 0 xs i 0 (omega arith) h))
 
-pub copy-next : (start xs : List ℕ) {out : List ℕ} {i b : ℕ} → i < length xs → i < length start → b ≡ getD xs i 0 → out ≡ take i xs ++ drop i start →
-    set out i b ≡ take (i + 1) xs ++ drop (i + 1) start
+pub copy-next : (start xs : List ℕ) {out : List ℕ} {i b : ℕ} → i < length xs → i < length start → b ≡ getD xs i 0 →
+    out ≡ take i xs ++ drop i start → set out i b ≡ take (i + 1) xs ++ drop (i + 1) start
 copy-next start xs {out} {i} h l e p = rw (p, e) (copy-more start xs i h l)
 
 -- the units of a body, one by one
@@ -35,7 +36,8 @@ units-at (suc n) (b ∷ c ∷ t) (suc i) h l =
     let high : suc (suc (2 * i)) + 1 ≡ suc (suc (2 * i + 1)) = omega arith in
     rw (low, high) (units-at n t i (omega arith) (omega arith))
 
-pub unit-there : (s : List ℕ) (at n i : ℕ) → i < n → at + 2 * n ≤ length s → getD s (at + 2 * i) 0 + 256 * getD s (at + 2 * i + 1) 0 ≡ getD (unitsOf n (drop at s)) i 0
+pub unit-there : (s : List ℕ) (at n i : ℕ) → i < n → at + 2 * n ≤ length s →
+    getD s (at + 2 * i) 0 + 256 * getD s (at + 2 * i + 1) 0 ≡ getD (unitsOf n (drop at s)) i 0
 unit-there s at n i h l =
     let high : at + (2 * i + 1) ≡ at + 2 * i + 1 = omega arith in
     rw (units-at n (drop at s) i h (omega (arith, length-drop at s)), getD-drop at s (2 * i) 0, getD-drop at s (2 * i + 1) 0, high)
@@ -71,7 +73,8 @@ module _ (s : List ℕ) (at : ℕ) (out : List ℕ) {end : ℕ} (e : end ≡ at 
   unfolding copyCString decode
   cstring-13 h l = too-long (decodeCString (drop at s)) out (end - at) (bytes-read h) (length-read h) l
 
-  pub cstring-copied : {o : List ℕ} → end < length s → end - at ≤ length out → o ≡ take (end - at) (drop at s) ++ drop (end - at) out → (took (end - at), o) ≡ copyCString s at out
+  pub cstring-copied : {o : List ℕ} → end < length s → end - at ≤ length out →
+      o ≡ take (end - at) (drop at s) ++ drop (end - at) out → (took (end - at), o) ≡ copyCString s at out
   unfolding copyCString decode
   cstring-copied h l p = taken (decodeCString (drop at s)) out (end - at) (bytes-read h) (length-read h) l p
 
@@ -91,6 +94,7 @@ module _ (s : List ℕ) (at : ℕ) (out : List ℕ) {n : ℕ} (e : n ≡ unitsBe
   unfolding copyUcs2 decode
   ucs2-13 h l = too-long (decodeUcs2 (drop at s)) out n (units-read h) units-length l
 
-  pub ucs2-copied : {o : List ℕ} → 2 ≤ length s - (at + 2 * n) → n ≤ length out → o ≡ unitsOf n (drop at s) ++ drop n out → (took n, o) ≡ copyUcs2 s at out
+  pub ucs2-copied : {o : List ℕ} → 2 ≤ length s - (at + 2 * n) → n ≤ length out →
+      o ≡ unitsOf n (drop at s) ++ drop n out → (took n, o) ≡ copyUcs2 s at out
   unfolding copyUcs2 decode
   ucs2-copied h l p = taken (decodeUcs2 (drop at s)) out n (units-read h) units-length l p

@@ -1,13 +1,13 @@
 -- Items of numbers only: a list of them is there, and one of them is there, exactly where the bytes are.
-use Prim.Native.Nat.{ℕ, _+_, _-_, _*_, _<_, _≤_}
-use mathlib.Core.Path.{_≡_, refl, sym, ap, _∙_}
+use Prim.Native.Nat.{ℕ, _+_, _-_, _*_, _<_}
+use mathlib.Core.Path.{_≡_, refl, sym, _∙_}
 use mathlib.Core.Bool.{Bool, true, false}
 use mathlib.Core.List.{List}
 use native.Mathlib.Omega.{arith}
 use borrow.Author.Tests.{leb-true, leb-false}
 use lib.ListN.{length, drop, length-drop}
 use lib.Dec.{leb, eqb}
-use Rattle.format.specs.Format.{Format, number, list, pick, Value, Read, got, decode, size}
+use Rattle.format.specs.Format.{Format, number, list, pick, decode}
 use Rattle.format.specs.View.{View, Seen, seen, missed, view, placed, place, Next, item, done, broken, onward, stepped}
 use Rattle.format.specs.Passed.{passed, room}
 use Rattle.format.proofs.Width.{width, size-is-width}
@@ -58,7 +58,9 @@ module _ (f : Format) (p : Plain f) (s : List ℕ) (at : ℕ) where
   unfolding itemsAt after room
   plain-list = view-list f s 2 at ∙ behind (view (number 2) s at)
     where
-      passes : (b : Bool) (n e : ℕ) → after {A = Unit {0}} {B = ℕ × ℕ} (pick b (seen tt (e + n * width f)) (missed 7)) (λ u d. seen (e, n) d) ≡ pick b (seen (e, n) (e + n * width f)) (missed 7)
+      passes : (b : Bool) (n e : ℕ) →
+          after {A = Unit {0}} {B = ℕ × ℕ} (pick b (seen tt (e + n * width f)) (missed 7)) (λ u d. seen (e, n) d)
+          ≡ pick b (seen (e, n) (e + n * width f)) (missed 7)
       passes true n e = refl
       passes false n e = refl
 
@@ -70,7 +72,7 @@ module _ (f : Format) (p : Plain f) (s : List ℕ) (at : ℕ) where
 pub list-of : (f : Format) → Plain f → (s : List ℕ) (at : ℕ) {v : Seen (ℕ × ℕ)} → itemsAt (width f) s at ≡ v → v ≡ view (list 2 f) s at
 list-of f p s at e = sym (plain-list f p s at ∙ e)
 
--- ---- for a reader that takes a step by the width and then reads the item's fields where its bytes start
+-- ---- a reader that takes a step by the width, and then reads the item's fields where its bytes start
 
 pub step-start : (width : ℕ) (s : List ℕ) (at n : ℕ) {b : ℕ × ℕ} {e m : ℕ} → itemStepped width s at n ≡ item b e m → b .0 ≡ at
 unfolding itemStepped bytesAt
@@ -103,13 +105,14 @@ as-broken same-done e = cc
 as-broken same-broken e = cc
 
 module _ (f : Format) (p : Plain f) (s : List ℕ) (at n : ℕ) where
-  pub step-item : {b : ℕ × ℕ} {v : View f} {e m d : ℕ} → itemStepped (width f) s at n ≡ item b e m → view f s at ≡ seen v d → item v e m ≡ stepped f s at n
+  pub step-item : {b : ℕ × ℕ} {v : View f} {e m d : ℕ} →
+      itemStepped (width f) s at n ≡ item b e m → seen v d ≡ view f s (b .0) → item v e m ≡ stepped f s at n
   unfolding itemStepped stepped
-  step-item h r = read-item (eqb n 0) (n - 1) (plain-bytes f p s at) h r
+  step-item {b} h r = read-item (eqb n 0) (n - 1) (plain-bytes f p s at) h (sym (rw (step-start (width f) s at n h) at r))
 
-  pub step-off : {b : ℕ × ℕ} {k e m : ℕ} → itemStepped (width f) s at n ≡ item b e m → view f s at ≡ missed k → broken k ≡ stepped f s at n
+  pub step-off : {b : ℕ × ℕ} {k e m : ℕ} → itemStepped (width f) s at n ≡ item b e m → missed k ≡ view f s (b .0) → broken k ≡ stepped f s at n
   unfolding itemStepped stepped
-  step-off h r = read-off (bytesAt (width f) s at) (eqb n 0) (n - 1) h r
+  step-off h r = read-off (bytesAt (width f) s at) (eqb n 0) (n - 1) h (sym (rw (step-start (width f) s at n h) at r))
 
   pub step-done : itemStepped (width f) s at n ≡ done → done ≡ stepped f s at n
   step-done h = as-done (plain-step f p s at n) h

@@ -179,5 +179,7 @@ u32-list-last = last-seen (list 2 (number 4)) u32ListSays u32List.Read u32ListRa
 pub u32-list-none : LastShort (list 2 (number 4)) u32ListSays u32List.Short 7
 u32-list-none = last-short (list 2 (number 4)) u32ListSays u32List.Short 7 refl
 
--- the rules at hand for a body's reader
-pub ruleset needs = (kit.needs, u8-missed, u8-seen, u8-last, u8-short, u8-none, u16-missed, u16-seen, u16-short, u32-missed, u32-seen, u32-last, u32-short, u32-none, cstring-missed, cstring-seen, cstring-last, cstring-short, cstring-none, ucs2-missed, ucs2-seen, ucs2-last, ucs2-short, ucs2-none, block-last, block-none, u16-list-last, u16-list-none, u32-list-last, u32-list-none)
+-- the rules of reading alone, and with the kit's: what `search` is given at a reader's needs
+pub ruleset reading = (u8-missed, u8-seen, u8-last, u8-short, u8-none, u16-missed, u16-seen, u16-short, u32-missed, u32-seen, u32-last, u32-short, u32-none, cstring-missed, cstring-seen, cstring-last, cstring-short, cstring-none, ucs2-missed, ucs2-seen, ucs2-last, ucs2-short, ucs2-none, block-last, block-none, u16-list-last, u16-list-none, u32-list-last, u32-list-none)
+
+pub ruleset needs = (kit.needs, reading)

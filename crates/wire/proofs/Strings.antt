@@ -7,11 +7,12 @@ use native.Mathlib.Omega.{arith}
 use lib.ListN.{length, take, drop, length-drop}
 use lib.Seq.{length-take-le}
 use lib.Dec.{eqb}
-use Rattle.format.specs.Format.{cstring, ucs2, Read, got, refused, bind, pick, decodeCString, decodeUcs2, decode, size}
+use Rattle.format.specs.Format.{cstring, ucs2, got, refused, bind, pick, decodeCString, decodeUcs2, decode, size}
 use Rattle.format.specs.View.{seen, missed, view, placed, place, unitsOf}
 use Rattle.search.specs.Zero.{unless, beforeZero, unitsBeforeZero}
 use Rattle.search.proofs.Zero.{before-within, units-within}
 
+-- a string of bytes ends at its first zero, and without one is refused
 pub cstring-ends : (t : List ℕ) → beforeZero t < length t → decodeCString t ≡ got (take (beforeZero t) t) (drop (suc (beforeZero t)) t)
 unfolding beforeZero decodeCString
 cstring-ends [] h = absurd (omega arith)
@@ -35,6 +36,7 @@ cstring-unended (b ∷ t) h = by (eqb b 0) h (cstring-unended t)
     by true l k = absurd (omega arith)
     by false l k = rw (k (omega arith))
 
+-- the same of units
 pub ucs2-ends : (t : List ℕ) → 2 * unitsBeforeZero t + 1 < length t → decodeUcs2 t ≡ got (unitsOf (unitsBeforeZero t) t) (drop (2 * unitsBeforeZero t + 2) t)
 unfolding unitsBeforeZero decodeUcs2 unitsOf
 ucs2-ends [] h = absurd (omega arith)
@@ -56,7 +58,8 @@ ucs2-unended [] h = refl
 ucs2-unended (b ∷ []) h = refl
 ucs2-unended (b ∷ c ∷ t) h = by (eqb (b + 256 * c) 0) h (ucs2-unended t)
   where
-    by : (z : Bool) → suc (suc (length t)) < 2 * unless z (suc (unitsBeforeZero t)) + 2 → (length t < 2 * unitsBeforeZero t + 2 → decodeUcs2 t ≡ refused 8) →
+    by : (z : Bool) → suc (suc (length t)) < 2 * unless z (suc (unitsBeforeZero t)) + 2 →
+        (length t < 2 * unitsBeforeZero t + 2 → decodeUcs2 t ≡ refused 8) →
         pick z (got [] t) (bind (decodeUcs2 t) (λ xs u. got ((b + 256 * c) ∷ xs) u)) ≡ refused 8
     by true l k = absurd (omega arith)
     by false l k = rw (k (omega arith))
@@ -91,7 +94,8 @@ module _ (s : List ℕ) (at : ℕ) where
   unfolding view placed place size decode
   ucs2-there {n} e h =
       let l : length (drop at s) ≡ length s - at = length-drop at s in
-      let len : length (unitsOf (unitsBeforeZero (drop at s)) (drop at s)) ≡ n = length-units (unitsBeforeZero (drop at s)) (drop at s) (omega arith) ∙ omega arith in
+      let count = unitsBeforeZero (drop at s) in
+      let len : length (unitsOf count (drop at s)) ≡ n = length-units count (drop at s) (omega arith) ∙ omega arith in
       let back : at + (n * 2 + 2) ≡ at + 2 * n + 2 = omega arith in
       rw (ucs2-ends (drop at s) (omega arith), len, back)
 

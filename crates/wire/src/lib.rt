@@ -211,13 +211,8 @@ impl Cursor {
         let at = self.at;
         let end = first_zero(body, at);
         if end < body.len() {
-            return CStringRead::Read(
-                CString {
-                    start: at,
-                    len: end - at,
-                },
-                Cursor { at: end + 1 },
-            );
+            let len = end - at;
+            return CStringRead::Read(CString { start: at, len }, Cursor { at: end + 1 });
         }
         CStringRead::Unended
     }
@@ -423,12 +418,12 @@ pub fn copy_cstring(body: &[u8], string: CString, out: &mut [u8]) -> Copied
 {
     let start = string.start;
     let end = first_zero(body, start);
-    if body.len() <= end {
-        return Copied::Refused(8);
-    }
     let len = end - start;
+    if body.len() <= end {
+        return Copied::Refused(8); // no zero byte
+    }
     if out.len() < len {
-        return Copied::Refused(13);
+        return Copied::Refused(13); // fewer bytes than the string has
     }
     copy_bytes(body, start, len, out);
     Copied::Copied(len)
@@ -439,14 +434,15 @@ pub fn copy_ucs2(body: &[u8], string: Ucs2, out: &mut [u16]) -> Copied
     ensures { λ r. ⌜ (copiedSays r, now (out .exit)) ≡ copyUcs2 (now (body .entry)) (string .start) (now (out .entry)) ⌝ }
 {
     let start = string.start;
-    let len = units_before_zero(body, start);
-    let end = start + 2 * len;
-    if left_from(body, end) < 2 {
-        return Copied::Refused(8);
+    let n = units_before_zero(body, start);
+    let end = start + 2 * n;
+    let rest = left_from(body, end);
+    if rest < 2 {
+        return Copied::Refused(8); // no zero unit
     }
-    if out.len() < len {
-        return Copied::Refused(13);
+    if out.len() < n {
+        return Copied::Refused(13); // fewer units than the string has
     }
-    copy_units(body, start, len, out);
-    Copied::Copied(len)
+    copy_units(body, start, n, out);
+    Copied::Copied(n)
 }

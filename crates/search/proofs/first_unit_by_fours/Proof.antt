@@ -24,7 +24,9 @@ add-if1 : tie.Need-add-if1 Inv-loop μ-loop
 add-if1 c = omega arith
 
 returns : tie.Need-returns Inv-loop μ-loop
-returns c = let r = c .before .first-of-4-units .ensures in record { passed = free-join (c .before .before .before .loop .inv .0) (r .passed); within = omega arith; ends = λ h. r .ends (c .if1 .taken) }
+returns c =
+    let r = c .before .first-of-4-units .ensures in
+    record { passed = free-join (c .before .before .before .loop .inv .0) (r .passed); within = omega arith; ends = λ h. r .ends (c .if1 .taken) }
 
 add-n : tie.Need-add-n Inv-loop μ-loop
 add-n c = omega arith

@@ -36,7 +36,10 @@ first-by-eights-requires : tie.Need-first-by-eights-requires Inv-loop μ-loop
 first-by-eights-requires c κs = omega arith
 
 returns-2 : tie.Need-returns-2 Inv-loop μ-loop
-returns-2 c = let r = c .before .first-by-eights .ensures in first-is _ _ (free-join (free-more (c .before .before .before .before .before .before .loop .inv) (c .before .before .before .if1 .left) refl) (r .passed)) (λ h. r .ends (c .if2 .taken))
+returns-2 c =
+    let r = c .before .first-by-eights .ensures in
+    let one = free-more (c .before .before .before .before .before .before .loop .inv) (c .before .before .before .if1 .left) refl in
+    first-is _ _ (free-join one (r .passed)) (λ h. r .ends (c .if2 .taken))
 
 pass-256-requires : tie.Need-pass-256-requires Inv-loop μ-loop
 pass-256-requires c κs = omega arith
@@ -48,7 +51,10 @@ loop-less : tie.Need-loop-less Inv-loop μ-loop
 loop-less c = omega arith
 
 loop-again : tie.Need-loop-again Inv-loop μ-loop
-loop-again c = free-join (free-join (free-join (free-more (c .before .before .before .before .before .before .before .before .loop .inv) (c .before .before .before .before .before .if1 .left) refl) (first-free (c .before .before .before .first-by-eights .ensures) (c .before .before .if2 .left))) (c .before .pass-256 .ensures .0)) (c .pass-16 .ensures .0)
+loop-again c =
+    let one = free-more (c .before .before .before .before .before .before .before .before .loop .inv) (c .before .before .before .before .before .if1 .left) refl in
+    let near = first-free (c .before .before .before .first-by-eights .ensures) (c .before .before .if2 .left) in
+    free-join (free-join (free-join one near) (c .before .pass-256 .ensures .0)) (c .pass-16 .ensures .0)
 
 returns-3 : tie.Need-returns-3 Inv-loop μ-loop
 returns-3 c = first-is _ _ (c .before .loop .inv) (λ h. absurd (omega arith))

@@ -28,7 +28,9 @@ unit-at-requires : tie.Need-unit-at-requires Inv-loop μ-loop
 unit-at-requires c κs = omega arith
 
 returns-2 : tie.Need-returns-2 Inv-loop μ-loop
-returns-2 c = let a = c .before .before .before .before .before .before .args in units-are (now (a .s)) (a .at) (c .before .before .before .loop .inv .2) (omega arith) (λ h. sym (c .before .unit-at .ensures) ∙ c .if2 .taken)
+returns-2 c =
+    let a = c .before .before .before .before .before .before .args in
+    units-are (now (a .s)) (a .at) (c .before .before .before .loop .inv .2) (omega arith) (λ h. sym (c .before .unit-at .ensures) ∙ c .if2 .taken)
 
 add-smaller : tie.Need-add-smaller Inv-loop μ-loop
 add-smaller c = omega arith
@@ -43,7 +45,11 @@ first-unit-by-fours-requires : tie.Need-first-unit-by-fours-requires Inv-loop μ
 first-unit-by-fours-requires c κs = omega arith
 
 returns-3 : tie.Need-returns-3 Inv-loop μ-loop
-returns-3 c = let a = c .before .before .before .before .before .before .before .before .before .args in let r = c .before .first-unit-by-fours .ensures in units-are (now (a .s)) (a .at) (free-join (free-more (c .before .before .before .before .before .before .loop .inv .2) (λ e. c .before .before .before .if2 .left (c .before .before .before .before .unit-at .ensures ∙ e)) refl) (r .passed)) (omega arith) (λ h. r .ends (c .if3 .taken))
+returns-3 c =
+    let a = c .before .before .before .before .before .before .before .before .before .args in
+    let r = c .before .first-unit-by-fours .ensures in
+    let one = free-more (c .before .before .before .before .before .before .loop .inv .2) (λ e. c .before .before .before .if2 .left (c .before .before .before .before .unit-at .ensures ∙ e)) refl in
+    units-are (now (a .s)) (a .at) (free-join one (r .passed)) (omega arith) (λ h. r .ends (c .if3 .taken))
 
 pass-units-requires : tie.Need-pass-units-requires Inv-loop μ-loop
 pass-units-requires c κs = omega arith
@@ -55,10 +61,15 @@ loop-less : tie.Need-loop-less Inv-loop μ-loop
 loop-less c = omega arith
 
 loop-again : tie.Need-loop-again Inv-loop μ-loop
-loop-again c = (omega arith, omega arith, free-join (free-join (free-join (free-more (c .before .before .before .before .before .before .before .before .loop .inv .2) (λ e. c .before .before .before .before .before .if2 .left (c .before .before .before .before .before .before .unit-at .ensures ∙ e)) refl) (first-free (c .before .before .before .first-unit-by-fours .ensures) (c .before .before .if3 .left))) (c .before .pass-units .ensures .0)) (c .pass-units2 .ensures .0))
+loop-again c =
+    let one = free-more (c .before .before .before .before .before .before .before .before .loop .inv .2) (λ e. c .before .before .before .before .before .if2 .left (c .before .before .before .before .before .before .unit-at .ensures ∙ e)) refl in
+    let near = first-free (c .before .before .before .first-unit-by-fours .ensures) (c .before .before .if3 .left) in
+    (omega arith, omega arith, free-join (free-join (free-join one near) (c .before .pass-units .ensures .0)) (c .pass-units2 .ensures .0))
 
 returns-4 : tie.Need-returns-4 Inv-loop μ-loop
-returns-4 c = let a = c .before .before .before .before .args in units-are (now (a .s)) (a .at) (c .before .loop .inv .2) (omega arith) (λ h. absurd (omega arith))
+returns-4 c =
+    let a = c .before .before .before .before .args in
+    units-are (now (a .s)) (a .at) (c .before .loop .inv .2) (omega arith) (λ h. absurd (omega arith))
 
 pub units-before-zero-spec : {M : Type 1} → statement M
 units-before-zero-spec =

@@ -30,7 +30,13 @@ loop-less : tie.Need-loop-less Inv-loop μ-loop
 loop-less c = omega arith
 
 loop-again : tie.Need-loop-again Inv-loop μ-loop
-loop-again c = (omega arith, ⊎-elim (λ w z k p. absurd (omega arith)) (λ w z. below-more _ _ (c .before .before .before .loop .inv .1 (sym (w .1) ∙ z)) (c .before .least-of-16 .ensures (w .0 .left))) (c .if1 .came))
+loop-again c = (
+  omega arith,
+  ⊎-elim
+      (λ w z k p. absurd (omega arith))
+      (λ w z. below-more _ _ (c .before .before .before .loop .inv .1 (sym (w .1) ∙ z)) (c .before .least-of-16 .ensures (w .0 .left)))
+      (c .if1 .came),
+)
 
 returns : tie.Need-returns Inv-loop μ-loop
 returns c = λ z. free-rows 16 _ (λ k p. c .before .loop .inv .1 z k (omega arith))

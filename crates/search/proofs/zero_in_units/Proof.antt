@@ -29,7 +29,13 @@ loop-less : tie.Need-loop-less Inv-loop μ-loop
 loop-less c = omega arith
 
 loop-again : tie.Need-loop-again Inv-loop μ-loop
-loop-again c = (omega arith, ⊎-elim (λ w z. absurd (omega arith)) (λ w z. free-more (c .before .before .before .loop .inv .1 (sym (w .1) ∙ z)) (λ e. w .0 .left (c .before .unit-at .ensures ∙ e)) (omega arith)) (c .if1 .came))
+loop-again c = (
+  omega arith,
+  ⊎-elim
+      (λ w z. absurd (omega arith))
+      (λ w z. free-more (c .before .before .before .loop .inv .1 (sym (w .1) ∙ z)) (λ e. w .0 .left (c .before .unit-at .ensures ∙ e)) (omega arith))
+      (c .if1 .came),
+)
 
 returns : tie.Need-returns Inv-loop μ-loop
 returns c = λ z. free-to (c .before .loop .inv .1 z) (omega arith)

@@ -35,7 +35,13 @@ loop-less : tie.Need-loop-less Inv-loop μ-loop
 loop-less c = omega arith
 
 loop-again : tie.Need-loop-again Inv-loop μ-loop
-loop-again c = let a = c .before .before .before .args in let l = c .before .before .loop in let x = drop (a .start) (now (a .body)) in (omega arith, simp length-set (l .inv .1), copy-next (now (a .out)) x (omega (arith, length-drop (a .start) (now (a .body)))) (omega arith) (sym (getD-drop (a .start) (now (a .body)) (l .i) 0)) (l .inv .2))
+loop-again c =
+    let a = c .before .before .before .args in
+    let l = c .before .before .loop in
+    let x = drop (a .start) (now (a .body)) in
+    let w = length-drop (a .start) (now (a .body)) in
+    let byte = sym (getD-drop (a .start) (now (a .body)) (l .i) 0) in
+    (omega arith, simp length-set (l .inv .1), copy-next (now (a .out)) x (omega (arith, w)) (omega arith) byte (l .inv .2))
 
 same-length : tie.Need-same-length Inv-loop μ-loop
 same-length c = search needs

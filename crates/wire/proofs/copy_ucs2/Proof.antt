@@ -31,7 +31,8 @@ same-length : tie.Need-same-length
 same-length c = search needs
 
 returns-3 : tie.Need-returns-3
-returns-3 c = ucs2-copied _ _ _ (c .before .before .before .before .before .before .before .units-before-zero .ensures) (omega arith) (c .before .before .before .before .if2 .left) (c .before .before .copy-units .ensures)
+returns-3 c = ucs2-copied _ _ _ (c .before .before .before .before .before .before .before .units-before-zero .ensures) (omega arith)
+    (c .before .before .before .before .if2 .left) (c .before .before .copy-units .ensures)
 
 pub copy-ucs2-spec : {M : Type 1} → statement M
 copy-ucs2-spec =

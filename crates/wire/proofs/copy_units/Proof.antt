@@ -51,13 +51,23 @@ loop-less : tie.Need-loop-less Inv-loop μ-loop
 loop-less c = omega arith
 
 loop-again : tie.Need-loop-again Inv-loop μ-loop
-loop-again c = let a = c .before .before .before .before .before .before .before .args in let l = c .before .before .before .before .loop in let x = unitsOf (a .n) (drop (a .start) (now (a .body))) in let w = length-units (a .n) (drop (a .start) (now (a .body))) (omega (arith, length-drop (a .start) (now (a .body)))) in (omega arith, simp length-set (l .inv .1), copy-next (now (a .out)) x (omega (arith, w)) (omega arith) (c .join-2 .ensures ∙ unit-there (now (a .body)) (a .start) (a .n) (l .i) (omega arith) (omega arith)) (l .inv .2))
+loop-again c =
+    let a = c .before .before .before .before .before .before .before .args in
+    let l = c .before .before .before .before .loop in
+    let x = unitsOf (a .n) (drop (a .start) (now (a .body))) in
+    let w = length-units (a .n) (drop (a .start) (now (a .body))) (omega (arith, length-drop (a .start) (now (a .body)))) in
+    let unit = c .join-2 .ensures ∙ unit-there (now (a .body)) (a .start) (a .n) (l .i) (omega arith) (omega arith) in
+    (omega arith, simp length-set (l .inv .1), copy-next (now (a .out)) x (omega (arith, w)) (omega arith) unit (l .inv .2))
 
 same-length : tie.Need-same-length Inv-loop μ-loop
 same-length c = search needs
 
 returns : tie.Need-returns Inv-loop μ-loop
-returns c = let a = c .before .before .before .before .args in let l = c .before .loop in let e : l .i ≡ a .n = omega arith in rw (e, all-units (now (a .body)) (a .start) (a .n) (omega arith)) at (l .inv .2)
+returns c =
+    let a = c .before .before .before .before .args in
+    let l = c .before .loop in
+    let e : l .i ≡ a .n = omega arith in
+    rw (e, all-units (now (a .body)) (a .start) (a .n) (omega arith)) at (l .inv .2)
 
 pub copy-units-spec : {M : Type 1} → statement M
 copy-units-spec =

@@ -7,7 +7,11 @@ use Rattle.wire.proofs.fit.Statement.{statement}
 use Rattle.wire.proofs.fit.Tie as tie
 
 mul-result : tie.Need-mul-result
-mul-result c = let a = c .before .args in let n : a .count ≤ 65535 = omega arith in let h : a .count * a .width ≤ 65535 * 65536 = mul-le-mul n (c .if1 .taken) in omega arith
+mul-result c =
+    let a = c .before .args in
+    let n : a .count ≤ 65535 = omega arith in
+    let h : a .count * a .width ≤ 65535 * 65536 = mul-le-mul n (c .if1 .taken) in
+    omega arith
 
 returns : tie.Need-returns
 returns c = search needs

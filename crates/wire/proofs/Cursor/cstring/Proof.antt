@@ -7,8 +7,8 @@ use Rattle.wire.proofs.Cursor.cstring.Tie as tie
 first-zero-requires : tie.Need-first-zero-requires
 first-zero-requires c κs = search needs
 
-sub-t7 : tie.Need-sub-t7
-sub-t7 c = omega arith
+sub-len : tie.Need-sub-len
+sub-len c = omega arith
 
 add-t9 : tie.Need-add-t9
 add-t9 c = omega arith
@@ -20,4 +20,4 @@ returns-2 : tie.Need-returns-2
 returns-2 c = cstring-none _ _ (c .before .first-zero .ensures) (c .if1 .left)
 
 pub cstring-spec : {M : Type 1} → statement M
-cstring-spec = tie.close (tie.spec first-zero-requires sub-t7 add-t9 returns returns-2)
+cstring-spec = tie.close (tie.spec first-zero-requires sub-len add-t9 returns returns-2)

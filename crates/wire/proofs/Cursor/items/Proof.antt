@@ -31,10 +31,12 @@ cast-end : tie.Need-cast-end
 cast-end c = omega arith
 
 -- as many items have room, or have not
-has-room : (c : tie.Then1) → c .before .before .before .before .count .given .0 .0 * c .before .before .before .before .before .before .before .before .args .width ≤ c .before .before .left-from .result
+has-room : (c : tie.Then1) →
+    c .before .before .before .before .count .given .0 .0 * c .before .before .before .before .before .before .before .before .args .width ≤ c .before .before .left-from .result
 has-room c = leb-true _ _ (sym (c .before .fit .ensures) ∙ c .if1 .taken)
 
-no-room : (c : tie.Else1) → c .before .before .left-from .result < c .before .before .before .before .count .given .0 .0 * c .before .before .before .before .before .before .before .before .args .width
+no-room : (c : tie.Else1) →
+    c .before .before .left-from .result < c .before .before .before .before .count .given .0 .0 * c .before .before .before .before .before .before .before .before .args .width
 no-room c = leb-false _ _ (sym (c .before .fit .ensures) ∙ c .if1 .left)
 
 mul-end : tie.Need-mul-end
@@ -44,10 +46,14 @@ add-end : tie.Need-add-end
 add-end c = omega (arith, has-room c)
 
 returns-2 : tie.Need-returns-2
-returns-2 c = items-there _ _ _ (met u16Says (c .before .before .before .before .before .before .u16 .ensures) (c .before .before .before .before .count .given .1)) (omega (arith, has-room c))
+returns-2 c =
+    let count = met u16Says (c .before .before .before .before .before .before .u16 .ensures) (c .before .before .before .before .count .given .1) in
+    items-there _ _ _ count (omega (arith, has-room c))
 
 returns-3 : tie.Need-returns-3
-returns-3 c = items-off _ _ _ (met u16Says (c .before .before .before .before .before .before .u16 .ensures) (c .before .before .before .before .count .given .1)) (omega (arith, no-room c))
+returns-3 c =
+    let count = met u16Says (c .before .before .before .before .before .before .u16 .ensures) (c .before .before .before .before .count .given .1) in
+    items-off _ _ _ count (omega (arith, no-room c))
 
 pub items-spec : {M : Type 1} → statement M
 items-spec =

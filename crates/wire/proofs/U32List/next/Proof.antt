@@ -26,7 +26,8 @@ sub-t9 : tie.Need-sub-t9
 sub-t9 c = omega arith
 
 returns-3 : tie.Need-returns-3
-returns-3 c = next-item (number 4) _ _ _ (c .before .before .before .before .if1 .left) (met u32Says (c .before .before .before .u32 .ensures) (c .before .n .given .1))
+returns-3 c = next-item (number 4) _ _ _ (c .before .before .before .before .if1 .left)
+    (met u32Says (c .before .before .before .u32 .ensures) (c .before .n .given .1))
 
 pub next-spec : {M : Type 1} → statement M
 next-spec =
