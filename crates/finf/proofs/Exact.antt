@@ -9,17 +9,13 @@ use Rattle.finf.specs.declared.SFraRead.the-variants as sfra-read
 use Rattle.finf.specs.declared.FramRead.the-variants as fram-read
 
 abbrev sfraRead : Seen (View sfra) → SFraRead
-sfraRead (seen (a, a′) e) = sfra-read.Read (record { «fixture_identifiers» = record { at = a; left = a′ } }) (record { at = e })
-sfraRead (missed n) = sfra-read.Refused n
+sfraRead = elim [ seen (a, a′) e ↦ sfra-read.Read (record { «fixture_identifiers» = record { at = a; left = a′ } }) (record { at = e }) | missed n ↦ sfra-read.Refused n ]
 
 pub sfra-exact : (r : SFraRead) → r ≡ sfraRead (sfraSays r)
-sfra-exact (sfra-read.Read x c) = refl
-sfra-exact (sfra-read.Refused n) = refl
+sfra-exact = elim [ sfra-read.Read x c ↦ refl | sfra-read.Refused n ↦ refl ]
 
 abbrev framRead : Seen (View fram) → FramRead
-framRead (seen (a, (b, (d, (f, f′)))) e) = fram-read.Read (record { «fixture_identifier» = a; «frame_filter_count» = b; «frame_gobo_count» = d; «frame_names» = record { start = f; len = f′ } }) (record { at = e })
-framRead (missed n) = fram-read.Refused n
+framRead = elim [ seen (a, (b, (d, (f, f′)))) e ↦ fram-read.Read (record { «fixture_identifier» = a; «frame_filter_count» = b; «frame_gobo_count» = d; «frame_names» = record { start = f; len = f′ } }) (record { at = e }) | missed n ↦ fram-read.Refused n ]
 
 pub fram-exact : (r : FramRead) → r ≡ framRead (framSays r)
-fram-exact (fram-read.Read x c) = refl
-fram-exact (fram-read.Refused n) = refl
+fram-exact = elim [ fram-read.Read x c ↦ refl | fram-read.Refused n ↦ refl ]

@@ -1,9 +1,23 @@
 // The FINF layer: fixture information.
+// A size past the largest packet is given as one byte more than that packet; a size's contract has 0 for each number, whose width is fixed.
 ghost use mathlib.Core.Path.{_≡_};
+ghost use Rattle.format.specs.Format.{size};
 ghost use Rattle.format.specs.View.{view};
 ghost use Rattle.protocol.specs.Layer.{FINF};
 ghost use Rattle.protocol.specs.Step.{readBody};
+ghost use Rattle.put.specs.Put.{capped, putAt};
 ghost use Rattle.finf.specs.Says.{sfra, fram, sfraSays, framSays, messageSays};
+use put::Put;
+use put::cstring_size;
+use put::holds_zero;
+use put::more;
+use put::put_cstring;
+use put::put_u8;
+use put::put_u16;
+use put::put_u16_list;
+use put::u16_list_size;
+use put::u16_list_too_long;
+use put::weigh;
 use wire::CString;
 use wire::CStringRead;
 use wire::Cursor;
@@ -47,6 +61,25 @@ impl SFra {
             },
             c,
         )
+    }
+
+    pub fn size_bytes(fixture_identifiers: &[u16]) -> usize
+        ensures { λ r. ⌜ r ≡ capped (size sfra (now («fixture_identifiers» .entry))) ⌝ }
+    {
+        more(0, u16_list_size(fixture_identifiers))
+    }
+
+    pub fn write_to_bytes(out: &mut [u8], at: usize, fixture_identifiers: &[u16]) -> Put
+        ensures { λ r. ⌜ (r, now (out .exit)) ≡ putAt sfra (now («fixture_identifiers» .entry)) at (now (out .entry)) ⌝ }
+    {
+        let long = u16_list_too_long(fixture_identifiers);
+        let len = SFra::size_bytes(fixture_identifiers);
+        let number = weigh(false, long, at, len, out.len());
+        if number != 0 {
+            return Put { number, at };
+        }
+        let at = put_u16_list(out, at, fixture_identifiers);
+        Put { number: 0, at }
     }
 }
 
@@ -92,6 +125,35 @@ impl Fram {
             },
             c,
         )
+    }
+
+    pub fn size_bytes(frame_names: &[u8]) -> usize
+        ensures { λ r. ⌜ r ≡ capped (size fram (0, (0, (0, now («frame_names» .entry))))) ⌝ }
+    {
+        more(4, cstring_size(frame_names))
+    }
+
+    pub fn write_to_bytes(
+        out: &mut [u8],
+        at: usize,
+        fixture_identifier: u16,
+        frame_filter_count: u8,
+        frame_gobo_count: u8,
+        frame_names: &[u8],
+    ) -> Put
+        ensures { λ r. ⌜ (r, now (out .exit)) ≡ putAt fram («fixture_identifier», («frame_filter_count», («frame_gobo_count», now («frame_names» .entry)))) at (now (out .entry)) ⌝ }
+    {
+        let zeros = holds_zero(frame_names);
+        let len = Fram::size_bytes(frame_names);
+        let number = weigh(zeros, false, at, len, out.len());
+        if number != 0 {
+            return Put { number, at };
+        }
+        let at = put_u16(out, at, fixture_identifier);
+        let at = put_u8(out, at, frame_filter_count);
+        let at = put_u8(out, at, frame_gobo_count);
+        let at = put_cstring(out, at, frame_names);
+        Put { number: 0, at }
     }
 }
 

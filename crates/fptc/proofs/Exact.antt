@@ -11,25 +11,19 @@ use Rattle.fptc.specs.declared.UPtcRead.the-variants as uptc-read
 use Rattle.fptc.specs.declared.SPtcRead.the-variants as sptc-read
 
 abbrev ptchRead : Seen (View ptch) → PtchRead
-ptchRead (seen (a, (b, (d, (f, (g, ((h, h′), (i, i′))))))) e) = ptch-read.Read (record { «fixture_identifier» = a; universe = b; reserved = d; channel = f; «channel_count» = g; «fixture_make» = record { start = h; len = h′ }; «fixture_name» = record { start = i; len = i′ } }) (record { at = e })
-ptchRead (missed n) = ptch-read.Refused n
+ptchRead = elim [ seen (a, (b, (d, (f, (g, ((h, h′), (i, i′))))))) e ↦ ptch-read.Read (record { «fixture_identifier» = a; universe = b; reserved = d; channel = f; «channel_count» = g; «fixture_make» = record { start = h; len = h′ }; «fixture_name» = record { start = i; len = i′ } }) (record { at = e }) | missed n ↦ ptch-read.Refused n ]
 
 pub ptch-exact : (r : PtchRead) → r ≡ ptchRead (ptchSays r)
-ptch-exact (ptch-read.Read x c) = refl
-ptch-exact (ptch-read.Refused n) = refl
+ptch-exact = elim [ ptch-read.Read x c ↦ refl | ptch-read.Refused n ↦ refl ]
 
 abbrev uptcRead : Seen (View uptc) → UPtcRead
-uptcRead (seen (a, a′) e) = uptc-read.Read (record { «fixture_identifiers» = record { at = a; left = a′ } }) (record { at = e })
-uptcRead (missed n) = uptc-read.Refused n
+uptcRead = elim [ seen (a, a′) e ↦ uptc-read.Read (record { «fixture_identifiers» = record { at = a; left = a′ } }) (record { at = e }) | missed n ↦ uptc-read.Refused n ]
 
 pub uptc-exact : (r : UPtcRead) → r ≡ uptcRead (uptcSays r)
-uptc-exact (uptc-read.Read x c) = refl
-uptc-exact (uptc-read.Refused n) = refl
+uptc-exact = elim [ uptc-read.Read x c ↦ refl | uptc-read.Refused n ↦ refl ]
 
 abbrev sptcRead : Seen (View sptc) → SPtcRead
-sptcRead (seen (a, a′) e) = sptc-read.Read (record { «fixture_identifiers» = record { at = a; left = a′ } }) (record { at = e })
-sptcRead (missed n) = sptc-read.Refused n
+sptcRead = elim [ seen (a, a′) e ↦ sptc-read.Read (record { «fixture_identifiers» = record { at = a; left = a′ } }) (record { at = e }) | missed n ↦ sptc-read.Refused n ]
 
 pub sptc-exact : (r : SPtcRead) → r ≡ sptcRead (sptcSays r)
-sptc-exact (sptc-read.Read x c) = refl
-sptc-exact (sptc-read.Refused n) = refl
+sptc-exact = elim [ sptc-read.Read x c ↦ refl | sptc-read.Refused n ↦ refl ]

@@ -1,9 +1,24 @@
 // The FPTC layer: fixture patch.
+// A size past the largest packet is given as one byte more than that packet; a size's contract has 0 for each number, whose width is fixed.
 ghost use mathlib.Core.Path.{_≡_};
+ghost use Rattle.format.specs.Format.{size};
 ghost use Rattle.format.specs.View.{view};
 ghost use Rattle.protocol.specs.Layer.{FPTC};
 ghost use Rattle.protocol.specs.Step.{readBody};
+ghost use Rattle.put.specs.Put.{capped, putAt, Writes};
 ghost use Rattle.fptc.specs.Says.{ptch, uptc, sptc, ptchSays, uptcSays, sptcSays, messageSays};
+use put::Put;
+use put::cstring_size;
+use put::either;
+use put::holds_zero;
+use put::more;
+use put::put_cstring;
+use put::put_u8;
+use put::put_u16;
+use put::put_u16_list;
+use put::u16_list_size;
+use put::u16_list_too_long;
+use put::weigh;
 use wire::CString;
 use wire::CStringRead;
 use wire::Cursor;
@@ -83,6 +98,70 @@ impl Ptch {
             c,
         )
     }
+
+    pub fn size_bytes(fixture_make: &[u8], fixture_name: &[u8]) -> usize
+        ensures { λ r. ⌜ r ≡ capped (size ptch (0, (0, (0, (0, (0, (now («fixture_make» .entry), now («fixture_name» .entry)))))))) ⌝ }
+    {
+        more(
+            8,
+            more(cstring_size(fixture_make), cstring_size(fixture_name)),
+        )
+    }
+
+    fn put(
+        out: &mut [u8],
+        at: usize,
+        fixture_identifier: u16,
+        universe: u8,
+        reserved: u8,
+        channel: u16,
+        channel_count: u16,
+        fixture_make: &[u8],
+        fixture_name: &[u8],
+    ) -> usize
+        ensures { λ r. ⌜ Writes ptch («fixture_identifier», (universe, (reserved, (channel, («channel_count», (now («fixture_make» .entry), now («fixture_name» .entry))))))) at (now (out .entry)) r (now (out .exit)) ⌝ }
+    {
+        let at = put_u16(out, at, fixture_identifier);
+        let at = put_u8(out, at, universe);
+        let at = put_u8(out, at, reserved);
+        let at = put_u16(out, at, channel);
+        let at = put_u16(out, at, channel_count);
+        let at = put_cstring(out, at, fixture_make);
+        put_cstring(out, at, fixture_name)
+    }
+
+    pub fn write_to_bytes(
+        out: &mut [u8],
+        at: usize,
+        fixture_identifier: u16,
+        universe: u8,
+        reserved: u8,
+        channel: u16,
+        channel_count: u16,
+        fixture_make: &[u8],
+        fixture_name: &[u8],
+    ) -> Put
+        ensures { λ r. ⌜ (r, now (out .exit)) ≡ putAt ptch («fixture_identifier», (universe, (reserved, (channel, («channel_count», (now («fixture_make» .entry), now («fixture_name» .entry))))))) at (now (out .entry)) ⌝ }
+    {
+        let zeros = either(holds_zero(fixture_make), holds_zero(fixture_name));
+        let len = Ptch::size_bytes(fixture_make, fixture_name);
+        let number = weigh(zeros, false, at, len, out.len());
+        if number != 0 {
+            return Put { number, at };
+        }
+        let at = Ptch::put(
+            out,
+            at,
+            fixture_identifier,
+            universe,
+            reserved,
+            channel,
+            channel_count,
+            fixture_make,
+            fixture_name,
+        );
+        Put { number: 0, at }
+    }
 }
 
 // Unpatch: the fixtures that are unpatched; with none named, all of them.
@@ -112,6 +191,25 @@ impl UPtc {
             c,
         )
     }
+
+    pub fn size_bytes(fixture_identifiers: &[u16]) -> usize
+        ensures { λ r. ⌜ r ≡ capped (size uptc (now («fixture_identifiers» .entry))) ⌝ }
+    {
+        more(0, u16_list_size(fixture_identifiers))
+    }
+
+    pub fn write_to_bytes(out: &mut [u8], at: usize, fixture_identifiers: &[u16]) -> Put
+        ensures { λ r. ⌜ (r, now (out .exit)) ≡ putAt uptc (now («fixture_identifiers» .entry)) at (now (out .entry)) ⌝ }
+    {
+        let long = u16_list_too_long(fixture_identifiers);
+        let len = UPtc::size_bytes(fixture_identifiers);
+        let number = weigh(false, long, at, len, out.len());
+        if number != 0 {
+            return Put { number, at };
+        }
+        let at = put_u16_list(out, at, fixture_identifiers);
+        Put { number: 0, at }
+    }
 }
 
 // Send patch: asks for the patch of the fixtures named; with none named, for all of it.
@@ -140,6 +238,25 @@ impl SPtc {
             },
             c,
         )
+    }
+
+    pub fn size_bytes(fixture_identifiers: &[u16]) -> usize
+        ensures { λ r. ⌜ r ≡ capped (size sptc (now («fixture_identifiers» .entry))) ⌝ }
+    {
+        more(0, u16_list_size(fixture_identifiers))
+    }
+
+    pub fn write_to_bytes(out: &mut [u8], at: usize, fixture_identifiers: &[u16]) -> Put
+        ensures { λ r. ⌜ (r, now (out .exit)) ≡ putAt sptc (now («fixture_identifiers» .entry)) at (now (out .entry)) ⌝ }
+    {
+        let long = u16_list_too_long(fixture_identifiers);
+        let len = SPtc::size_bytes(fixture_identifiers);
+        let number = weigh(false, long, at, len, out.len());
+        if number != 0 {
+            return Put { number, at };
+        }
+        let at = put_u16_list(out, at, fixture_identifiers);
+        Put { number: 0, at }
     }
 }
 

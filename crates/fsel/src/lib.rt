@@ -1,9 +1,19 @@
 // The FSEL layer: fixture selection.
+// A size past the largest packet is given as one byte more than that packet; a size's contract has 0 for each number, whose width is fixed.
 ghost use mathlib.Core.Path.{_≡_};
+ghost use Rattle.format.specs.Format.{size};
 ghost use Rattle.format.specs.View.{view};
 ghost use Rattle.protocol.specs.Layer.{FSEL};
 ghost use Rattle.protocol.specs.Step.{readBody};
+ghost use Rattle.put.specs.Put.{capped, putAt};
 ghost use Rattle.fsel.specs.Says.{sele, dese, seleSays, deseSays, messageSays};
+use put::Put;
+use put::more;
+use put::put_u8;
+use put::put_u16_list;
+use put::u16_list_size;
+use put::u16_list_too_long;
+use put::weigh;
 use wire::Cursor;
 use wire::U8Read;
 use wire::U16List;
@@ -57,6 +67,33 @@ impl Sele {
             c,
         )
     }
+
+    pub fn size_bytes(fixture_identifiers: &[u16]) -> usize
+        ensures { λ r. ⌜ r ≡ capped (size sele (0, (0, now («fixture_identifiers» .entry)))) ⌝ }
+    {
+        more(2, u16_list_size(fixture_identifiers))
+    }
+
+    pub fn write_to_bytes(
+        out: &mut [u8],
+        at: usize,
+        complete: u8,
+        reserved: u8,
+        fixture_identifiers: &[u16],
+    ) -> Put
+        ensures { λ r. ⌜ (r, now (out .exit)) ≡ putAt sele (complete, (reserved, now («fixture_identifiers» .entry))) at (now (out .entry)) ⌝ }
+    {
+        let long = u16_list_too_long(fixture_identifiers);
+        let len = Sele::size_bytes(fixture_identifiers);
+        let number = weigh(false, long, at, len, out.len());
+        if number != 0 {
+            return Put { number, at };
+        }
+        let at = put_u8(out, at, complete);
+        let at = put_u8(out, at, reserved);
+        let at = put_u16_list(out, at, fixture_identifiers);
+        Put { number: 0, at }
+    }
 }
 
 // Deselect: the fixtures to deselect, with none named all of them.
@@ -85,6 +122,25 @@ impl DeSe {
             },
             c,
         )
+    }
+
+    pub fn size_bytes(fixture_identifiers: &[u16]) -> usize
+        ensures { λ r. ⌜ r ≡ capped (size dese (now («fixture_identifiers» .entry))) ⌝ }
+    {
+        more(0, u16_list_size(fixture_identifiers))
+    }
+
+    pub fn write_to_bytes(out: &mut [u8], at: usize, fixture_identifiers: &[u16]) -> Put
+        ensures { λ r. ⌜ (r, now (out .exit)) ≡ putAt dese (now («fixture_identifiers» .entry)) at (now (out .entry)) ⌝ }
+    {
+        let long = u16_list_too_long(fixture_identifiers);
+        let len = DeSe::size_bytes(fixture_identifiers);
+        let number = weigh(false, long, at, len, out.len());
+        if number != 0 {
+            return Put { number, at };
+        }
+        let at = put_u16_list(out, at, fixture_identifiers);
+        Put { number: 0, at }
     }
 }
 

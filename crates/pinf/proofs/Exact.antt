@@ -9,17 +9,13 @@ use Rattle.pinf.specs.declared.PNamRead.the-variants as pnam-read
 use Rattle.pinf.specs.declared.PLocRead.the-variants as ploc-read
 
 abbrev pnamRead : Seen (View pnam) → PNamRead
-pnamRead (seen (a, a′) e) = pnam-read.Read (record { name = record { start = a; len = a′ } }) (record { at = e })
-pnamRead (missed n) = pnam-read.Refused n
+pnamRead = elim [ seen (a, a′) e ↦ pnam-read.Read (record { name = record { start = a; len = a′ } }) (record { at = e }) | missed n ↦ pnam-read.Refused n ]
 
 pub pnam-exact : (r : PNamRead) → r ≡ pnamRead (pnamSays r)
-pnam-exact (pnam-read.Read x c) = refl
-pnam-exact (pnam-read.Refused n) = refl
+pnam-exact = elim [ pnam-read.Read x c ↦ refl | pnam-read.Refused n ↦ refl ]
 
 abbrev plocRead : Seen (View ploc) → PLocRead
-plocRead (seen (a, ((b, b′), ((d, d′), (f, f′)))) e) = ploc-read.Read (record { «listening_tcp_port» = a; kind = record { start = b; len = b′ }; name = record { start = d; len = d′ }; state = record { start = f; len = f′ } }) (record { at = e })
-plocRead (missed n) = ploc-read.Refused n
+plocRead = elim [ seen (a, ((b, b′), ((d, d′), (f, f′)))) e ↦ ploc-read.Read (record { «listening_tcp_port» = a; kind = record { start = b; len = b′ }; name = record { start = d; len = d′ }; state = record { start = f; len = f′ } }) (record { at = e }) | missed n ↦ ploc-read.Refused n ]
 
 pub ploc-exact : (r : PLocRead) → r ≡ plocRead (plocSays r)
-ploc-exact (ploc-read.Read x c) = refl
-ploc-exact (ploc-read.Refused n) = refl
+ploc-exact = elim [ ploc-read.Read x c ↦ refl | ploc-read.Refused n ↦ refl ]

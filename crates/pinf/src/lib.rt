@@ -1,9 +1,20 @@
 // The PINF layer: peer information.
+// A size past the largest packet is given as one byte more than that packet; a size's contract has 0 for each number, whose width is fixed.
 ghost use mathlib.Core.Path.{_≡_};
+ghost use Rattle.format.specs.Format.{size};
 ghost use Rattle.format.specs.View.{view};
 ghost use Rattle.protocol.specs.Layer.{PINF};
 ghost use Rattle.protocol.specs.Step.{readBody};
+ghost use Rattle.put.specs.Put.{capped, putAt};
 ghost use Rattle.pinf.specs.Says.{pnam, ploc, pnamSays, plocSays, messageSays};
+use put::Put;
+use put::cstring_size;
+use put::either;
+use put::holds_zero;
+use put::more;
+use put::put_cstring;
+use put::put_u16;
+use put::weigh;
 use wire::CString;
 use wire::CStringRead;
 use wire::Cursor;
@@ -52,6 +63,25 @@ impl PNam {
         };
         PNamRead::Read(PNam { name }, c)
     }
+
+    pub fn size_bytes(name: &[u8]) -> usize
+        ensures { λ r. ⌜ r ≡ capped (size pnam (now (name .entry))) ⌝ }
+    {
+        more(0, cstring_size(name))
+    }
+
+    pub fn write_to_bytes(out: &mut [u8], at: usize, name: &[u8]) -> Put
+        ensures { λ r. ⌜ (r, now (out .exit)) ≡ putAt pnam (now (name .entry)) at (now (out .entry)) ⌝ }
+    {
+        let zeros = holds_zero(name);
+        let len = PNam::size_bytes(name);
+        let number = weigh(zeros, false, at, len, out.len());
+        if number != 0 {
+            return Put { number, at };
+        }
+        let at = put_cstring(out, at, name);
+        Put { number: 0, at }
+    }
 }
 
 // Peer location: where and how a peer can be reached.
@@ -98,6 +128,44 @@ impl PLoc {
             },
             c,
         )
+    }
+
+    pub fn size_bytes(kind: &[u8], name: &[u8], state: &[u8]) -> usize
+        ensures { λ r. ⌜ r ≡ capped (size ploc (0, (now (kind .entry), (now (name .entry), now (state .entry))))) ⌝ }
+    {
+        more(
+            2,
+            more(
+                cstring_size(kind),
+                more(cstring_size(name), cstring_size(state)),
+            ),
+        )
+    }
+
+    pub fn write_to_bytes(
+        out: &mut [u8],
+        at: usize,
+        listening_tcp_port: u16,
+        kind: &[u8],
+        name: &[u8],
+        state: &[u8],
+    ) -> Put
+        ensures { λ r. ⌜ (r, now (out .exit)) ≡ putAt ploc («listening_tcp_port», (now (kind .entry), (now (name .entry), now (state .entry)))) at (now (out .entry)) ⌝ }
+    {
+        let zeros = either(
+            holds_zero(kind),
+            either(holds_zero(name), holds_zero(state)),
+        );
+        let len = PLoc::size_bytes(kind, name, state);
+        let number = weigh(zeros, false, at, len, out.len());
+        if number != 0 {
+            return Put { number, at };
+        }
+        let at = put_u16(out, at, listening_tcp_port);
+        let at = put_cstring(out, at, kind);
+        let at = put_cstring(out, at, name);
+        let at = put_cstring(out, at, state);
+        Put { number: 0, at }
     }
 }
 

@@ -18,51 +18,37 @@ use Rattle.sdmx.specs.declared.ChLsRead.the-variants as chls-read
 use Rattle.sdmx.specs.declared.SxusRead.the-variants as sxus-read
 
 abbrev capaRead : Seen (View capa) → CapaRead
-capaRead (seen (a, a′) e) = capa-read.Read (record { capabilities = record { at = a; left = a′ } }) (record { at = e })
-capaRead (missed n) = capa-read.Refused n
+capaRead = elim [ seen (a, a′) e ↦ capa-read.Read (record { capabilities = record { at = a; left = a′ } }) (record { at = e }) | missed n ↦ capa-read.Refused n ]
 
 pub capa-exact : (r : CapaRead) → r ≡ capaRead (capaSays r)
-capa-exact (capa-read.Read x c) = refl
-capa-exact (capa-read.Refused n) = refl
+capa-exact = elim [ capa-read.Read x c ↦ refl | capa-read.Refused n ↦ refl ]
 
 abbrev unamRead : Seen (View unam) → UNamRead
-unamRead (seen (a, (b, b′)) e) = unam-read.Read (record { «universe_index» = a; «universe_name» = record { start = b; len = b′ } }) (record { at = e })
-unamRead (missed n) = unam-read.Refused n
+unamRead = elim [ seen (a, (b, b′)) e ↦ unam-read.Read (record { «universe_index» = a; «universe_name» = record { start = b; len = b′ } }) (record { at = e }) | missed n ↦ unam-read.Refused n ]
 
 pub unam-exact : (r : UNamRead) → r ≡ unamRead (unamSays r)
-unam-exact (unam-read.Read x c) = refl
-unam-exact (unam-read.Refused n) = refl
+unam-exact = elim [ unam-read.Read x c ↦ refl | unam-read.Refused n ↦ refl ]
 
 abbrev chbkRead : Seen (View chbk) → ChBkRead
-chbkRead (seen (a, (b, (d, (f, f′)))) e) = chbk-read.Read (record { blind = a; «universe_index» = b; «first_channel» = d; «channel_levels» = record { start = f; len = f′ } }) (record { at = e })
-chbkRead (missed n) = chbk-read.Refused n
+chbkRead = elim [ seen (a, (b, (d, (f, f′)))) e ↦ chbk-read.Read (record { blind = a; «universe_index» = b; «first_channel» = d; «channel_levels» = record { start = f; len = f′ } }) (record { at = e }) | missed n ↦ chbk-read.Refused n ]
 
 pub chbk-exact : (r : ChBkRead) → r ≡ chbkRead (chbkSays r)
-chbk-exact (chbk-read.Read x c) = refl
-chbk-exact (chbk-read.Refused n) = refl
+chbk-exact = elim [ chbk-read.Read x c ↦ refl | chbk-read.Refused n ↦ refl ]
 
 abbrev chlsRead : Seen (View chls) → ChLsRead
-chlsRead (seen (a, a′) e) = chls-read.Read (record { «channel_levels» = record { at = a; left = a′ } }) (record { at = e })
-chlsRead (missed n) = chls-read.Refused n
+chlsRead = elim [ seen (a, a′) e ↦ chls-read.Read (record { «channel_levels» = record { at = a; left = a′ } }) (record { at = e }) | missed n ↦ chls-read.Refused n ]
 
 pub chls-exact : (r : ChLsRead) → r ≡ chlsRead (chlsSays r)
-chls-exact (chls-read.Read x c) = refl
-chls-exact (chls-read.Refused n) = refl
+chls-exact = elim [ chls-read.Read x c ↦ refl | chls-read.Refused n ↦ refl ]
 
 abbrev sxusRead : Seen (View sxus) → SxusRead
-sxusRead (seen (a, (b, b′)) e) = sxus-read.Read (record { «universe_index» = a; «connection_string» = record { start = b; len = b′ } }) (record { at = e })
-sxusRead (missed n) = sxus-read.Refused n
+sxusRead = elim [ seen (a, (b, b′)) e ↦ sxus-read.Read (record { «universe_index» = a; «connection_string» = record { start = b; len = b′ } }) (record { at = e }) | missed n ↦ sxus-read.Refused n ]
 
 pub sxus-exact : (r : SxusRead) → r ≡ sxusRead (sxusSays r)
-sxus-exact (sxus-read.Read x c) = refl
-sxus-exact (sxus-read.Refused n) = refl
+sxus-exact = elim [ sxus-read.Read x c ↦ refl | sxus-read.Refused n ↦ refl ]
 
 abbrev channelLevelsNextOf : Next (View channelLevelFormat) → ChannelLevelsNext
-channelLevelsNextOf (item (a, (b, d)) e n) = levels-next.Item (record { «universe_index» = a; channel = b; «channel_level» = d }) (record { at = e; left = n })
-channelLevelsNextOf done = levels-next.Done
-channelLevelsNextOf (broken n) = levels-next.Refused n
+channelLevelsNextOf = elim [ item (a, (b, d)) e n ↦ levels-next.Item (record { «universe_index» = a; channel = b; «channel_level» = d }) (record { at = e; left = n }) | done ↦ levels-next.Done | broken n ↦ levels-next.Refused n ]
 
 pub channel-levels-next-exact : (r : ChannelLevelsNext) → r ≡ channelLevelsNextOf (channelLevelsNextSays r)
-channel-levels-next-exact (levels-next.Item x l) = refl
-channel-levels-next-exact levels-next.Done = refl
-channel-levels-next-exact (levels-next.Refused n) = refl
+channel-levels-next-exact = elim [ levels-next.Item x l ↦ refl | levels-next.Done ↦ refl | levels-next.Refused n ↦ refl ]

@@ -1,10 +1,27 @@
 // The SDMX layer: DMX channels.
+// A size past the largest packet is given as one byte more than that packet; a size's contract has 0 for each number, whose width is fixed.
 ghost use mathlib.Core.Path.{_≡_};
+ghost use Rattle.format.specs.Format.{size};
 ghost use Rattle.format.specs.View.{view, stepped};
 ghost use Rattle.protocol.specs.Layer.{SDMX};
 ghost use Rattle.protocol.specs.Kind.{channelLevelFormat};
 ghost use Rattle.protocol.specs.Step.{readBody};
+ghost use Rattle.put.specs.Put.{capped, putAt};
 ghost use Rattle.sdmx.specs.Says.{capa, unam, chbk, chls, sxus, capaSays, unamSays, chbkSays, chlsSays, sxusSays, channelLevelSays, channelLevelsNextSays, messageSays};
+use put::Put;
+use put::block_size;
+use put::block_too_long;
+use put::cstring_size;
+use put::holds_zero;
+use put::more;
+use put::put_block;
+use put::put_cstring;
+use put::put_u8;
+use put::put_u16;
+use put::put_u16_list;
+use put::u16_list_size;
+use put::u16_list_too_long;
+use put::weigh;
 use wire::Block;
 use wire::BlockRead;
 use wire::CString;
@@ -62,6 +79,25 @@ impl Capa {
         };
         CapaRead::Read(Capa { capabilities }, c)
     }
+
+    pub fn size_bytes(capabilities: &[u16]) -> usize
+        ensures { λ r. ⌜ r ≡ capped (size capa (now (capabilities .entry))) ⌝ }
+    {
+        more(0, u16_list_size(capabilities))
+    }
+
+    pub fn write_to_bytes(out: &mut [u8], at: usize, capabilities: &[u16]) -> Put
+        ensures { λ r. ⌜ (r, now (out .exit)) ≡ putAt capa (now (capabilities .entry)) at (now (out .entry)) ⌝ }
+    {
+        let long = u16_list_too_long(capabilities);
+        let len = Capa::size_bytes(capabilities);
+        let number = weigh(false, long, at, len, out.len());
+        if number != 0 {
+            return Put { number, at };
+        }
+        let at = put_u16_list(out, at, capabilities);
+        Put { number: 0, at }
+    }
 }
 
 // Universe name.
@@ -96,6 +132,31 @@ impl UNam {
             },
             c,
         )
+    }
+
+    pub fn size_bytes(universe_name: &[u8]) -> usize
+        ensures { λ r. ⌜ r ≡ capped (size unam (0, now («universe_name» .entry))) ⌝ }
+    {
+        more(1, cstring_size(universe_name))
+    }
+
+    pub fn write_to_bytes(
+        out: &mut [u8],
+        at: usize,
+        universe_index: u8,
+        universe_name: &[u8],
+    ) -> Put
+        ensures { λ r. ⌜ (r, now (out .exit)) ≡ putAt unam («universe_index», now («universe_name» .entry)) at (now (out .entry)) ⌝ }
+    {
+        let zeros = holds_zero(universe_name);
+        let len = UNam::size_bytes(universe_name);
+        let number = weigh(zeros, false, at, len, out.len());
+        if number != 0 {
+            return Put { number, at };
+        }
+        let at = put_u8(out, at, universe_index);
+        let at = put_cstring(out, at, universe_name);
+        Put { number: 0, at }
     }
 }
 
@@ -143,6 +204,35 @@ impl ChBk {
             },
             c,
         )
+    }
+
+    pub fn size_bytes(channel_levels: &[u8]) -> usize
+        ensures { λ r. ⌜ r ≡ capped (size chbk (0, (0, (0, now («channel_levels» .entry))))) ⌝ }
+    {
+        more(4, block_size(channel_levels))
+    }
+
+    pub fn write_to_bytes(
+        out: &mut [u8],
+        at: usize,
+        blind: u8,
+        universe_index: u8,
+        first_channel: u16,
+        channel_levels: &[u8],
+    ) -> Put
+        ensures { λ r. ⌜ (r, now (out .exit)) ≡ putAt chbk (blind, («universe_index», («first_channel», now («channel_levels» .entry)))) at (now (out .entry)) ⌝ }
+    {
+        let long = block_too_long(channel_levels);
+        let len = ChBk::size_bytes(channel_levels);
+        let number = weigh(false, long, at, len, out.len());
+        if number != 0 {
+            return Put { number, at };
+        }
+        let at = put_u8(out, at, blind);
+        let at = put_u8(out, at, universe_index);
+        let at = put_u16(out, at, first_channel);
+        let at = put_block(out, at, channel_levels);
+        Put { number: 0, at }
     }
 }
 
@@ -282,6 +372,31 @@ impl Sxus {
             },
             c,
         )
+    }
+
+    pub fn size_bytes(connection_string: &[u8]) -> usize
+        ensures { λ r. ⌜ r ≡ capped (size sxus (0, now («connection_string» .entry))) ⌝ }
+    {
+        more(1, cstring_size(connection_string))
+    }
+
+    pub fn write_to_bytes(
+        out: &mut [u8],
+        at: usize,
+        universe_index: u8,
+        connection_string: &[u8],
+    ) -> Put
+        ensures { λ r. ⌜ (r, now (out .exit)) ≡ putAt sxus («universe_index», now («connection_string» .entry)) at (now (out .entry)) ⌝ }
+    {
+        let zeros = holds_zero(connection_string);
+        let len = Sxus::size_bytes(connection_string);
+        let number = weigh(zeros, false, at, len, out.len());
+        if number != 0 {
+            return Put { number, at };
+        }
+        let at = put_u8(out, at, universe_index);
+        let at = put_cstring(out, at, connection_string);
+        Put { number: 0, at }
     }
 }
 

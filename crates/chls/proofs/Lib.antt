@@ -1,0 +1,3 @@
+pub mod Again
+pub mod Cut
+pub mod Levels
