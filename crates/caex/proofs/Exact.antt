@@ -1,17 +1,14 @@
 -- What an answer says determines it: nothing is lost.
 use Prim.Native.Nat.{ℕ, zero, suc}
-use mathlib.Core.Path.{_≡_, refl, sym}
-use lib.Ieee.{Float, binary32, ofBits}
-use Rattle.floats.specs.Pattern.{patternOf}
+use mathlib.Core.Path.{_≡_, refl}
+use lib.Ieee.{binary32, ofBits}
 use Rattle.format.specs.View.{View, Seen, seen, missed, Next, item, done, broken}
 use Rattle.protocol.specs.Kind.{identifierFormat, fixtureDataFormat, fixtureFormat}
 use Rattle.caex.specs.Codes.{messageTypeCode, identifierTypeCode}
-use Rattle.caex.specs.Parts.{floatBits}
 use Rattle.caex.specs.Says.{enterShow, fixtureList, fixtureRemove, laserFeedControl, enterShowSays, fixtureListSays, fixtureRemoveSays, laserFeedControlSays}
-use Rattle.caex.specs.Says.{identifiersNextSays, fixturesNextSays, NextFloats, FloatsRead, Reads, dataView}
+use Rattle.caex.specs.Says.{identifiersNextSays, fixturesNextSays, NextFloats, FloatsRead, dataView}
 use Rattle.caex.specs.declared.FixtureListMessageType.{FixtureListMessageType}
 use Rattle.caex.specs.declared.IdentifierType.{IdentifierType}
-use Rattle.caex.specs.declared.FloatBits.{FloatBits}
 use Rattle.caex.specs.declared.FixtureData.{FixtureData}
 use Rattle.caex.specs.declared.FixtureDataStrings.{FixtureDataStrings}
 use Rattle.caex.specs.declared.Fixture.{Fixture}

@@ -1,18 +1,17 @@
 -- The floats of a fixture's data, made of their bits.
 use Prim.Native.Nat.{ℕ, _^_, _<_}
-use mathlib.Core.Path.{_≡_, refl, ap, _∙_}
+use mathlib.Core.Path.{_≡_, ap, _∙_}
 use lib.Ieee.{Float, binary32, ofBits}
-use Rattle.floats.specs.Pattern.{patternOf}
 use Rattle.floats.proofs.Patterns.{pattern-of-read}
 use Rattle.format.specs.View.{View, Seen, seen}
 use Rattle.protocol.specs.Kind.{fixtureDataFormat}
 use Rattle.caex.specs.Parts.{floatBitsView}
-use Rattle.caex.specs.Says.{Reads, FloatsRead, Numbers, dataNumbers, inOrder, dataView}
+use Rattle.caex.specs.Says.{FloatRead, FloatsRead, Numbers, dataNumbers, inOrder, dataView}
 use Rattle.caex.specs.declared.FixtureData.{FixtureData}
 use Rattle.caex.specs.declared.FixtureDataStrings.{FixtureDataStrings}
 
-pub reads-bits : {x : Float} {bits : ℕ} → bits < 2 ^ 32 → x ≡ ofBits binary32 bits → Reads x bits
-reads-bits {x} {bits} h e = record { value = e; own = rw e (pattern-of-read bits h) }
+pub float-read : {x : Float} {bits : ℕ} → bits < 2 ^ 32 → x ≡ ofBits binary32 bits → FloatRead x bits
+float-read {x} {bits} h e = record { value = e; own = rw e (pattern-of-read bits h) }
 
 -- floats that are read stand for the bits beside them
 pub numbers-read : (x : FixtureData) → FloatsRead x → dataNumbers x ≡ (x .patched, x .universe, x .«universe_channel», x .channel, floatBitsView (x .bits))

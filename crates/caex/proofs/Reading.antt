@@ -39,7 +39,7 @@ use Rattle.caex.specs.declared.IdentifiersNext.the-variants as identifie
 use Rattle.caex.specs.declared.FixtureDataRead.the-variants as fixture-data
 use Rattle.caex.specs.declared.FixtureRead.the-variants as fixture
 use Rattle.caex.specs.declared.FixturesNext.the-variants as fixtures-next
-use Rattle.caex.proofs.Codes.{CodeMissed, CodeSeen, CodeUnknown, code-missed, code-seen, code-unknown, code-byte-short, code-known, code-above}
+use Rattle.caex.proofs.Codes.{CodeMissed, CodeSeen, CodeUnknown, code-missed, code-seen, code-unknown, code-byte-short, code-known}
 use Rattle.caex.proofs.Groups.{GroupMissed, GroupSeen, GroupShort, group-missed, group-seen, group-short}
 use Rattle.caex.proofs.Stepping.{ListSeen, ListRefused, ListShort, list-seen, list-refused, list-none, StepItem, StepRefused, step-item, step-refused, Passes, passes}
 

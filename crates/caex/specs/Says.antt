@@ -71,18 +71,18 @@ identifiersNextSays (identifiers-next.Refused n) = broken n
 -- ---- the data of a fixture
 
 -- a float as it is read: that of the bits beside it, which are its own
-pub record Reads (x : Float) (bits : ℕ) : Type 0 where
+pub record FloatRead (x : Float) (bits : ℕ) : Type 0 where
   pub value : x ≡ ofBits binary32 bits
   pub own : patternOf x bits ≡ bits
 
 -- the six floats of the data are so
 pub record FloatsRead (x : FixtureData) : Type 0 where
-  pub «position_x» : Reads (x .«position_x») (x .bits .«position_x»)
-  pub «position_y» : Reads (x .«position_y») (x .bits .«position_y»)
-  pub «position_z» : Reads (x .«position_z») (x .bits .«position_z»)
-  pub «angle_x» : Reads (x .«angle_x») (x .bits .«angle_x»)
-  pub «angle_y» : Reads (x .«angle_y») (x .bits .«angle_y»)
-  pub «angle_z» : Reads (x .«angle_z») (x .bits .«angle_z»)
+  pub «position_x» : FloatRead (x .«position_x») (x .bits .«position_x»)
+  pub «position_y» : FloatRead (x .«position_y») (x .bits .«position_y»)
+  pub «position_z» : FloatRead (x .«position_z») (x .bits .«position_z»)
+  pub «angle_x» : FloatRead (x .«angle_x») (x .bits .«angle_x»)
+  pub «angle_y» : FloatRead (x .«angle_y») (x .bits .«angle_y»)
+  pub «angle_z» : FloatRead (x .«angle_z») (x .bits .«angle_z»)
 
 -- patched, universe, universe_channel, channel, and the floats by their bits
 abbrev pub Numbers : Type 0

@@ -213,6 +213,7 @@ impl Identifiers {
         }
     }
 
+    // Steps to the end.
     fn pass(self, body: &[u8]) -> PassRead
         ensures { λ r. ⌜ passSays r ≡ passed identifierFormat (now (body .entry)) (self .at) (self .left) ⌝ }
     {
@@ -356,7 +357,7 @@ impl FloatBits {
     }
 }
 
-// A float is the value, but at a NaN its bits are, which keep what a NaN of the language loses.
+// Each float has its bits beside it: at a NaN they are the value, elsewhere the float is.
 pub struct FixtureData {
     // 0 or 1; not enforced
     pub patched: u8,
@@ -398,6 +399,7 @@ impl FixtureDataRead {
 }
 
 impl FixtureData {
+    // The floats are those of their bits.
     fn from_bits(patch: Patch, channel: u16, bits: FloatBits) -> FixtureData
         ensures { λ r. ⌜ (dataNumbers r ≡ numbersOf patch channel bits) × FloatsRead r ⌝ }
     {

@@ -12,10 +12,14 @@ use Rattle.caex.proofs.Fixture.read.Tie as tie
 -- identifiers and data are left: from there the search does not see as far back as the first fields
 abbrev left : (c : tie.After-known-told4) → Left fixtureFormat (tailOf 6 fixtureFormat) (c .before .is-dimmer .given .0 .1 .0 .at)
 left c =
-    let whole = start fixtureFormat (now (c .before .before .before .before .before .before .before .before .before .before .before .before .before .before .before .before .before .args .body)) (c .before .before .before .before .before .before .before .before .before .before .before .before .before .before .before .before .before .args .c .at) in
-    let behind-identifier = step whole (met u32Says (c .before .before .before .before .before .before .before .before .before .before .before .before .before .before .before .u32 .ensures) (c .before .before .before .before .before .before .before .before .before .before .before .before .before .fixture-identifier .given .1)) in
-    let behind-names = group-step names behind-identifier (met namesSays (c .before .before .before .before .before .before .before .before .before .before .before .read .ensures) (c .before .before .before .before .before .before .before .before .before .names .given .1)) in
-    let behind-count = step behind-names (met u16Says (c .before .before .before .before .before .before .before .u16 .ensures) (c .before .before .before .before .before .channel-count .given .1)) in
+    let after-count = c .before .before .before .before in
+    let after-names = after-count .before .before .before .before in
+    let after-identifier = after-names .before .before .before .before in
+    let given = after-identifier .before .before .before .before .before .args in
+    let whole = start fixtureFormat (now (given .body)) (given .c .at) in
+    let behind-identifier = step whole (met u32Says (after-identifier .before .before .before .u32 .ensures) (after-identifier .before .fixture-identifier .given .1)) in
+    let behind-names = group-step names behind-identifier (met namesSays (after-names .before .before .before .read .ensures) (after-names .before .names .given .1)) in
+    let behind-count = step behind-names (met u16Says (after-count .before .before .before .u16 .ensures) (after-count .before .channel-count .given .1)) in
     step behind-count (met u8Says (c .before .before .before .u8 .ensures) (c .before .is-dimmer .given .1))
 
 returns-6 : tie.Need-returns-6

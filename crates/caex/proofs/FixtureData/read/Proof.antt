@@ -12,11 +12,16 @@ use Rattle.caex.proofs.FixtureData.read.Tie as tie
 -- the floats are left: from there the search does not see as far back as the first fields
 abbrev left : (c : tie.After-known-told5) → Left fixtureDataFormat floatBits (c .before .note .given .0 .1 .0 .at)
 left c =
-    let whole = start fixtureDataFormat (now (c .before .before .before .before .before .before .before .before .before .before .before .before .before .before .before .before .before .before .before .before .before .args .body)) (c .before .before .before .before .before .before .before .before .before .before .before .before .before .before .before .before .before .before .before .before .before .args .c .at) in
-    let behind-patch = group-step patch whole (met patchSays (c .before .before .before .before .before .before .before .before .before .before .before .before .before .before .before .before .before .before .before .read .ensures) (c .before .before .before .before .before .before .before .before .before .before .before .before .before .before .before .before .before .patch .given .1)) in
-    let behind-unit = step behind-patch (met ucs2Says (c .before .before .before .before .before .before .before .before .before .before .before .before .before .before .before .ucs2 .ensures) (c .before .before .before .before .before .before .before .before .before .before .before .before .before .unit .given .1)) in
-    let behind-channel = step behind-unit (met u16Says (c .before .before .before .before .before .before .before .before .before .before .before .u16 .ensures) (c .before .before .before .before .before .before .before .before .before .channel .given .1)) in
-    let behind-circuit = step behind-channel (met ucs2Says (c .before .before .before .before .before .before .before .ucs22 .ensures) (c .before .before .before .before .before .circuit .given .1)) in
+    let after-circuit = c .before .before .before .before in
+    let after-channel = after-circuit .before .before .before .before in
+    let after-unit = after-channel .before .before .before .before in
+    let after-patch = after-unit .before .before .before .before in
+    let given = after-patch .before .before .before .before .before .args in
+    let whole = start fixtureDataFormat (now (given .body)) (given .c .at) in
+    let behind-patch = group-step patch whole (met patchSays (after-patch .before .before .before .read .ensures) (after-patch .before .patch .given .1)) in
+    let behind-unit = step behind-patch (met ucs2Says (after-unit .before .before .before .ucs2 .ensures) (after-unit .before .unit .given .1)) in
+    let behind-channel = step behind-unit (met u16Says (after-channel .before .before .before .u16 .ensures) (after-channel .before .channel .given .1)) in
+    let behind-circuit = step behind-channel (met ucs2Says (after-circuit .before .before .before .ucs22 .ensures) (after-circuit .before .circuit .given .1)) in
     step behind-circuit (met ucs2Says (c .before .before .before .ucs23 .ensures) (c .before .note .given .1))
 
 returns-6 : tie.Need-returns-6
