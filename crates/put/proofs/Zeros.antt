@@ -9,7 +9,8 @@ use borrow.Author.Tests.{eq-eqb, ne-eqb}
 use lib.ListN.{length, getD, drop, drop-of-length-le}
 use lib.Seq.{drop-cons}
 use lib.Dec.{eqb}
-use Rattle.format.specs.Fault.{any}
+use Rattle.format.specs.Format.{cstring, ucs2}
+use Rattle.format.specs.Fault.{any, holdsZero}
 
 abbrev pub anyZero : List ℕ → Bool
 anyZero s = any (λ x. eqb x 0) s
@@ -36,3 +37,22 @@ found {s} {i} h e a = rw (drop-cons s i 0 h, eq-eqb (getD s i 0) 0 e) at (a .res
 pub not-found : {s : List ℕ} {i : ℕ} → length s ≤ i → Searched s i → false ≡ anyZero s
 unfolding any
 not-found {s} h a = rw (drop-of-length-le s h) at (a .rest)
+
+-- ---- of strings
+
+module _ {s : List ℕ} {i : ℕ} (a : Searched s i) where
+  pub cstring-found : i < length s → getD s i 0 ≡ 0 → true ≡ holdsZero cstring s
+  unfolding holdsZero
+  cstring-found h e = found h e a
+
+  pub cstring-free : length s ≤ i → false ≡ holdsZero cstring s
+  unfolding holdsZero
+  cstring-free h = not-found h a
+
+  pub ucs2-found : i < length s → getD s i 0 ≡ 0 → true ≡ holdsZero ucs2 s
+  unfolding holdsZero
+  ucs2-found h e = found h e a
+
+  pub ucs2-free : length s ≤ i → false ≡ holdsZero ucs2 s
+  unfolding holdsZero
+  ucs2-free h = not-found h a
