@@ -3,6 +3,7 @@ use Prim.Native.Nat.{ℕ, zero, _+_, _-_, _*_, _/_, _%_, _≤_, _<_}
 use mathlib.Core.Path.{_≡_, refl, sym, subst}
 use mathlib.Core.Bool.{Bool, true, false}
 use native.Mathlib.Omega.{arith}
+use borrow.Author.Needs as kit
 use borrow.Author.Tests.{ltb-true, ltb-false}
 use lib.Dec.{ltb}
 use Rattle.search.specs.Free.{Rows, Free, First}
@@ -37,6 +38,10 @@ free-more x n e = free-to (free-join x (free-one n)) e
 pub first-join : {f : ℕ → ℕ} {a b m r : ℕ} → Free f a b → First f b m r → First f a m r
 first-join x y = record { passed = free-join x (y .passed); within = y .within; ends = y .ends }
 
+-- found in a part of what is searched
+pub first-here : {f : ℕ → ℕ} {a b m n r : ℕ} → Free f a b → First f b m r → r < m → r ≤ n → First f a n r
+first-here x y h l = record { passed = free-join x (y .passed); within = l; ends = λ _. y .ends h }
+
 -- no zero found: all was passed
 pub first-free : {f : ℕ → ℕ} {a m r : ℕ} → First f a m r → m ≤ r → Free f a m
 first-free x h = let w = x .within in free-to (x .passed) (omega arith)
@@ -64,3 +69,6 @@ free-rows {f} m i all = record { rises = omega arith; free = one }
     one k p q z =
         let e : i + (k - i) % 16 + 16 * ((k - i) / 16) ≡ k = omega arith in
         all ((k - i) % 16) (omega arith) .free ((k - i) / 16) (omega arith) (subst (λ (x : ℕ). f x ≡ 0) (sym e) z)
+
+-- what `search` is given at the needs of a loop that passes
+pub ruleset needs = (kit.needs, free-none)

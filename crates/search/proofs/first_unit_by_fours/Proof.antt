@@ -1,5 +1,5 @@
 use Rattle.search.specs.Free.{unitOf, Free}
-use Rattle.search.proofs.Free.{free-none, free-join, first-join, first-free}
+use Rattle.search.proofs.Free.{free-join, first-join, first-free, first-here, needs}
 use native.Mathlib.Omega.{arith}
 use Prim.Native.Nat.{_≤_, _-_}
 use Rattle.search.proofs.first_unit_by_fours.Statement.{statement}
@@ -12,33 +12,31 @@ abbrev μ-loop : tie.MeasureT-loop
 μ-loop s at from stop n₀ n = stop - n
 
 loop-holds : tie.Need-loop-holds Inv-loop μ-loop
-loop-holds c = (free-none (omega arith), omega arith)
+loop-holds c = search needs
 
 sub-loop : tie.Need-sub-loop Inv-loop μ-loop
-sub-loop c = omega arith
+sub-loop c = search needs
 
 first-of-4-units-requires : tie.Need-first-of-4-units-requires Inv-loop μ-loop
-first-of-4-units-requires c κs = omega arith
+first-of-4-units-requires c κs = search needs
 
 add-if1 : tie.Need-add-if1 Inv-loop μ-loop
-add-if1 c = omega arith
+add-if1 c = search needs
 
 returns : tie.Need-returns Inv-loop μ-loop
-returns c =
-    let r = c .before .first-of-4-units .ensures in
-    record { passed = free-join (c .before .before .before .loop .inv .0) (r .passed); within = omega arith; ends = λ h. r .ends (c .if1 .taken) }
+returns c = first-here (c .before .before .before .loop .inv .0) (c .before .first-of-4-units .ensures) (c .if1 .taken) (omega arith)
 
 add-n : tie.Need-add-n Inv-loop μ-loop
-add-n c = omega arith
+add-n c = search needs
 
 loop-less : tie.Need-loop-less Inv-loop μ-loop
-loop-less c = omega arith
+loop-less c = search needs
 
 loop-again : tie.Need-loop-again Inv-loop μ-loop
 loop-again c = (free-join (c .before .before .before .loop .inv .0) (first-free (c .before .first-of-4-units .ensures) (c .if1 .left)), omega arith)
 
 first-unit-one-by-one-requires : tie.Need-first-unit-one-by-one-requires Inv-loop μ-loop
-first-unit-one-by-one-requires c κs = omega arith
+first-unit-one-by-one-requires c κs = search needs
 
 returns-2 : tie.Need-returns-2 Inv-loop μ-loop
 returns-2 c = first-join (c .before .before .loop .inv .0) (c .first-unit-one-by-one .ensures)

@@ -1,5 +1,5 @@
 use Rattle.search.specs.Free.{unitOf, Free}
-use Rattle.search.proofs.Free.{free-none, free-join}
+use Rattle.search.proofs.Free.{free-join, needs}
 use native.Mathlib.Omega.{arith}
 use lib.ListN.{length}
 use Prim.Native.Nat.{_≤_, _-_, _+_, _*_}
@@ -13,37 +13,37 @@ abbrev μ-loop : tie.MeasureT-loop
 μ-loop s at from count n₀ n = length s - (at + 2 * n)
 
 loop-holds : tie.Need-loop-holds Inv-loop μ-loop
-loop-holds c = (free-none (omega arith), omega arith)
+loop-holds c = search needs
 
 mul-loop : tie.Need-mul-loop Inv-loop μ-loop
-mul-loop c = omega arith
+mul-loop c = search needs
 
 mul-loop-2 : tie.Need-mul-loop-2 Inv-loop μ-loop
-mul-loop-2 c = omega arith
+mul-loop-2 c = search needs
 
 add-loop : tie.Need-add-loop Inv-loop μ-loop
-add-loop c = omega arith
+add-loop c = search needs
 
 sub-loop : tie.Need-sub-loop Inv-loop μ-loop
-sub-loop c = omega arith
+sub-loop c = search needs
 
 zero-in-units-requires : tie.Need-zero-in-units-requires Inv-loop μ-loop
-zero-in-units-requires c κs = omega arith
+zero-in-units-requires c κs = search needs
 
 returns : tie.Need-returns Inv-loop μ-loop
-returns c = (c .before .before .before .loop .inv .0, omega arith)
+returns c = search needs
 
 add-n : tie.Need-add-n Inv-loop μ-loop
-add-n c = omega arith
+add-n c = search needs
 
 loop-less : tie.Need-loop-less Inv-loop μ-loop
-loop-less c = omega arith
+loop-less c = search needs
 
 loop-again : tie.Need-loop-again Inv-loop μ-loop
 loop-again c = (free-join (c .before .before .before .loop .inv .0) (c .before .zero-in-units .ensures (c .if1 .left)), omega arith)
 
 returns-2 : tie.Need-returns-2 Inv-loop μ-loop
-returns-2 c = (c .before .loop .inv .0, omega arith)
+returns-2 c = search needs
 
 pub pass-units-spec : {M : Type 1} → statement M
 pass-units-spec =
