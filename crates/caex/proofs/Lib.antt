@@ -4,3 +4,4 @@ pub mod Stepping
 pub mod Floats
 pub mod Reading
 pub mod Exact
+pub mod Heads

@@ -1,11 +1,15 @@
 // The CAEX layer: shows, fixture lists and laser feeds.
+// A size past the largest packet is given as one byte more than that packet; a size's contract has 0 for each number, whose width is fixed.
+// A list is written as its head with the count of its items, then item by item; a count is given wider than its field.
 ghost use mathlib.Core.Path.{_≡_};
-ghost use Rattle.format.specs.Format.{list};
+ghost use Rattle.format.specs.Format.{number, ucs2, list, size, _&_};
 ghost use Rattle.format.specs.View.{view, stepped};
 ghost use Rattle.format.specs.Passed.{passed, inRange};
-ghost use Rattle.protocol.specs.Kind.{identifierFormat, fixtureDataFormat, fixtureFormat};
+ghost use Rattle.protocol.specs.Kind.{identifierFormat, fixtureDataFormat, fixtureFormat, laserPointFormat};
 ghost use Rattle.protocol.specs.Layer.{CAEX};
 ghost use Rattle.protocol.specs.Step.{readBody};
+ghost use Rattle.floats.specs.Pattern.{patternOf};
+ghost use Rattle.put.specs.Put.{capped, putAt, Writes};
 ghost use Rattle.caex.specs.Codes.{messageTypeCode, identifierTypeCode, messageTypeSays, identifierTypeSays};
 ghost use Rattle.caex.specs.Parts.{names, patch, vector, floatBits};
 ghost use Rattle.caex.specs.Parts.{namesSays, patchSays, vectorSays, floatBitsSays, passSays, passNumber};
@@ -14,7 +18,27 @@ ghost use Rattle.caex.specs.Says.{dataNumbers, numbersOf, FloatsRead, da
 ghost use Rattle.caex.specs.Says.{fixtureSays, FixtureFloats, fixturesNextSays, NextFloats};
 ghost use Rattle.caex.specs.Says.{enterShow, fixtureList, fixtureRemove, laserFeedControl};
 ghost use Rattle.caex.specs.Says.{enterShowSays, fixtureListSays, fixtureRemoveSays, laserFeedControlSays, messageSays};
+ghost use Rattle.caex.specs.Write.{putHead, fixtureListHead, fixtureHead, laserFeedListHead, laserFeedFrameHead, dataValue, pointValue};
 use floats::f32_of;
+use floats::pattern_of;
+use put::Put;
+use put::block_size;
+use put::block_too_long;
+use put::either;
+use put::holds_zero_unit;
+use put::more;
+use put::put_block;
+use put::put_number_1;
+use put::put_number_2;
+use put::put_u8;
+use put::put_u16;
+use put::put_u32;
+use put::put_u32_list;
+use put::put_ucs2;
+use put::u32_list_size;
+use put::u32_list_too_long;
+use put::ucs2_size;
+use put::weigh;
 use wire::Block;
 use wire::BlockRead;
 use wire::Cursor;
@@ -58,6 +82,25 @@ impl EnterShow {
             return EnterShowRead::Refused(8);
         };
         EnterShowRead::Read(EnterShow { name }, c)
+    }
+
+    pub fn size_bytes(name: &[u16]) -> usize
+        ensures { λ r. ⌜ r ≡ capped (size enterShow (now (name .entry))) ⌝ }
+    {
+        more(0, ucs2_size(name))
+    }
+
+    pub fn write_to_bytes(out: &mut [u8], at: usize, name: &[u16]) -> Put
+        ensures { λ r. ⌜ (r, now (out .exit)) ≡ putAt enterShow (now (name .entry)) at (now (out .entry)) ⌝ }
+    {
+        let zeros = holds_zero_unit(name);
+        let len = EnterShow::size_bytes(name);
+        let number = weigh(zeros, false, at, len, out.len());
+        if number != 0 {
+            return Put { number, at };
+        }
+        let at = put_ucs2(out, at, name);
+        Put { number: 0, at }
     }
 }
 
@@ -144,6 +187,31 @@ impl Identifier {
             },
             c,
         )
+    }
+
+    pub fn size_bytes(data: &[u8]) -> usize
+        ensures { λ r. ⌜ r ≡ capped (size identifierFormat (0, now («data» .entry))) ⌝ }
+    {
+        more(1, block_size(data))
+    }
+
+    pub fn write_to_bytes(
+        out: &mut [u8],
+        at: usize,
+        identifier_type: IdentifierType,
+        data: &[u8],
+    ) -> Put
+        ensures { λ r. ⌜ (r, now (out .exit)) ≡ putAt identifierFormat (identifierTypeCode «identifier_type», now («data» .entry)) at (now (out .entry)) ⌝ }
+    {
+        let long = block_too_long(data);
+        let len = Identifier::size_bytes(data);
+        let number = weigh(false, long, at, len, out.len());
+        if number != 0 {
+            return Put { number, at };
+        }
+        let at = put_u8(out, at, identifier_type.code());
+        let at = put_block(out, at, data);
+        Put { number: 0, at }
     }
 }
 
@@ -357,7 +425,14 @@ impl FloatBits {
     }
 }
 
-// Each float has its bits beside it: at a NaN they are the value, elsewhere the float is.
+// Writes a float by its bits.
+fn put_f32(out: &mut [u8], at: usize, x: f32, beside: u32) -> usize
+    ensures { λ r. ⌜ Writes (number 4) (patternOf x beside) at (now (out .entry)) r (now (out .exit)) ⌝ }
+{
+    put_u32(out, at, pattern_of(x, beside))
+}
+
+// A float is the value, but at a NaN its bits are, which keep what a NaN of the language loses.
 pub struct FixtureData {
     // 0 or 1; not enforced
     pub patched: u8,
@@ -449,6 +524,62 @@ impl FixtureData {
             },
             c,
         )
+    }
+
+    pub fn size_bytes(unit: &[u16], circuit: &[u16], note: &[u16]) -> usize
+        ensures { λ r. ⌜ r ≡ capped (size fixtureDataFormat (0, (0, (0, (now (unit .entry), (0, (now (circuit .entry), (now (note .entry), (0, (0, (0, (0, (0, 0))))))))))))) ⌝ }
+    {
+        more(
+            30,
+            more(ucs2_size(unit), more(ucs2_size(circuit), ucs2_size(note))),
+        )
+    }
+
+    fn put_floats(self, out: &mut [u8], at: usize) -> usize
+        ensures { λ r. ⌜ Writes floatBits (dataNumbers self .4) at (now (out .entry)) r (now (out .exit)) ⌝ }
+    {
+        let at = put_f32(out, at, self.position_x, self.bits.position_x);
+        let at = put_f32(out, at, self.position_y, self.bits.position_y);
+        let at = put_f32(out, at, self.position_z, self.bits.position_z);
+        let at = put_f32(out, at, self.angle_x, self.bits.angle_x);
+        let at = put_f32(out, at, self.angle_y, self.bits.angle_y);
+        put_f32(out, at, self.angle_z, self.bits.angle_z)
+    }
+
+    fn put(self, out: &mut [u8], at: usize, unit: &[u16], circuit: &[u16], note: &[u16]) -> usize
+        ensures { λ r. ⌜ Writes fixtureDataFormat (dataValue self (now (unit .entry)) (now (circuit .entry)) (now (note .entry))) at (now (out .entry)) r (now (out .exit)) ⌝ }
+    {
+        let at = put_u8(out, at, self.patched);
+        let at = put_u8(out, at, self.universe);
+        let at = put_u16(out, at, self.universe_channel);
+        let at = put_ucs2(out, at, unit);
+        let at = put_u16(out, at, self.channel);
+        let at = put_ucs2(out, at, circuit);
+        let at = put_ucs2(out, at, note);
+        self.put_floats(out, at)
+    }
+
+    pub fn write_to_bytes(
+        self,
+        out: &mut [u8],
+        at: usize,
+        unit: &[u16],
+        circuit: &[u16],
+        note: &[u16],
+    ) -> Put
+        ensures { λ r. ⌜ (r, now (out .exit)) ≡ putAt fixtureDataFormat (dataValue self (now (unit .entry)) (now (circuit .entry)) (now (note .entry))) at (now (out .entry)) ⌝ }
+    {
+        let zeros = either(
+            holds_zero_unit(unit),
+            either(holds_zero_unit(circuit), holds_zero_unit(note)),
+        );
+        let len = FixtureData::size_bytes(unit, circuit, note);
+        let number = weigh(zeros, false, at, len, out.len());
+        if number != 0 {
+            return Put { number, at };
+        }
+        let at = self.put(out, at, unit, circuit, note);
+        Put { number: 0, at }
     }
 }
 
@@ -557,6 +688,75 @@ impl Fixture {
             },
             c,
         )
+    }
+
+    fn head_size(manufacturer_name: &[u16], fixture_name: &[u16], mode_name: &[u16]) -> usize
+        ensures { λ r. ⌜ r ≡ capped (size (fixtureHead & number 1) ((0, (now («manufacturer_name» .entry), (now («fixture_name» .entry), (now («mode_name» .entry), (0, 0))))), 0)) ⌝ }
+    {
+        more(
+            8,
+            more(
+                ucs2_size(manufacturer_name),
+                more(ucs2_size(fixture_name), ucs2_size(mode_name)),
+            ),
+        )
+    }
+
+    fn put_head(
+        out: &mut [u8],
+        at: usize,
+        fixture_identifier: u32,
+        manufacturer_name: &[u16],
+        fixture_name: &[u16],
+        mode_name: &[u16],
+        channel_count: u16,
+        is_dimmer: u8,
+    ) -> usize
+        ensures { λ r. ⌜ Writes fixtureHead («fixture_identifier», (now («manufacturer_name» .entry), (now («fixture_name» .entry), (now («mode_name» .entry), («channel_count», «is_dimmer»))))) at (now (out .entry)) r (now (out .exit)) ⌝ }
+    {
+        let at = put_u32(out, at, fixture_identifier);
+        let at = put_ucs2(out, at, manufacturer_name);
+        let at = put_ucs2(out, at, fixture_name);
+        let at = put_ucs2(out, at, mode_name);
+        let at = put_u16(out, at, channel_count);
+        put_u8(out, at, is_dimmer)
+    }
+
+    // The fixture up to its identifiers.
+    pub fn write_head(
+        out: &mut [u8],
+        at: usize,
+        fixture_identifier: u32,
+        manufacturer_name: &[u16],
+        fixture_name: &[u16],
+        mode_name: &[u16],
+        channel_count: u16,
+        is_dimmer: u8,
+        identifier_count: usize,
+    ) -> Put
+        ensures { λ r. ⌜ (r, now (out .exit)) ≡ putHead fixtureHead («fixture_identifier», (now («manufacturer_name» .entry), (now («fixture_name» .entry), (now («mode_name» .entry), («channel_count», «is_dimmer»))))) 1 «identifier_count» at (now (out .entry)) ⌝ }
+    {
+        let zeros = either(
+            holds_zero_unit(manufacturer_name),
+            either(holds_zero_unit(fixture_name), holds_zero_unit(mode_name)),
+        );
+        let len = Fixture::head_size(manufacturer_name, fixture_name, mode_name);
+        let number = weigh(zeros, 256 <= identifier_count, at, len, out.len());
+        if number != 0 {
+            return Put { number, at };
+        }
+        let at = Fixture::put_head(
+            out,
+            at,
+            fixture_identifier,
+            manufacturer_name,
+            fixture_name,
+            mode_name,
+            channel_count,
+            is_dimmer,
+        );
+        let at = put_number_1(out, at, identifier_count);
+        Put { number: 0, at }
     }
 }
 
@@ -699,6 +899,24 @@ impl FixtureList {
             c,
         )
     }
+
+    // The list up to its fixtures.
+    pub fn write_head(
+        out: &mut [u8],
+        at: usize,
+        message_type: FixtureListMessageType,
+        fixture_count: usize,
+    ) -> Put
+        ensures { λ r. ⌜ (r, now (out .exit)) ≡ putHead fixtureListHead (messageTypeCode «message_type») 2 «fixture_count» at (now (out .entry)) ⌝ }
+    {
+        let number = weigh(false, 65536 <= fixture_count, at, 3, out.len());
+        if number != 0 {
+            return Put { number, at };
+        }
+        let at = put_u8(out, at, message_type.code());
+        let at = put_number_2(out, at, fixture_count);
+        Put { number: 0, at }
+    }
 }
 
 // Fixtures that were removed.
@@ -733,6 +951,25 @@ impl FixtureRemove {
             },
             c,
         )
+    }
+
+    pub fn size_bytes(fixture_identifiers: &[u32]) -> usize
+        ensures { λ r. ⌜ r ≡ capped (size fixtureRemove (now («fixture_identifiers» .entry))) ⌝ }
+    {
+        more(0, u32_list_size(fixture_identifiers))
+    }
+
+    pub fn write_to_bytes(out: &mut [u8], at: usize, fixture_identifiers: &[u32]) -> Put
+        ensures { λ r. ⌜ (r, now (out .exit)) ≡ putAt fixtureRemove (now («fixture_identifiers» .entry)) at (now (out .entry)) ⌝ }
+    {
+        let long = u32_list_too_long(fixture_identifiers);
+        let len = FixtureRemove::size_bytes(fixture_identifiers);
+        let number = weigh(false, long, at, len, out.len());
+        if number != 0 {
+            return Put { number, at };
+        }
+        let at = put_u32_list(out, at, fixture_identifiers);
+        Put { number: 0, at }
     }
 }
 
@@ -771,6 +1008,114 @@ impl LaserFeedControl {
             },
             c,
         )
+    }
+
+    pub fn size_bytes() -> usize
+        ensures { λ r. ⌜ r ≡ size laserFeedControl (0, 0) ⌝ }
+    {
+        2
+    }
+
+    pub fn write_to_bytes(out: &mut [u8], at: usize, feed_index: u8, frame_rate: u8) -> Put
+        ensures { λ r. ⌜ (r, now (out .exit)) ≡ putAt laserFeedControl («feed_index», «frame_rate») at (now (out .entry)) ⌝ }
+    {
+        let len = LaserFeedControl::size_bytes();
+        let number = weigh(false, false, at, len, out.len());
+        if number != 0 {
+            return Put { number, at };
+        }
+        let at = put_u8(out, at, feed_index);
+        let at = put_u8(out, at, frame_rate);
+        Put { number: 0, at }
+    }
+}
+
+// The laser feeds of a source: written only.
+pub struct LaserFeedList;
+
+impl LaserFeedList {
+    pub const CONTENT_TYPE: u32 = 0x00030101;
+
+    // The list up to its names.
+    pub fn write_head(out: &mut [u8], at: usize, source_key: u32, feed_count: usize) -> Put
+        ensures { λ r. ⌜ (r, now (out .exit)) ≡ putHead laserFeedListHead «source_key» 1 «feed_count» at (now (out .entry)) ⌝ }
+    {
+        let number = weigh(false, 256 <= feed_count, at, 5, out.len());
+        if number != 0 {
+            return Put { number, at };
+        }
+        let at = put_u32(out, at, source_key);
+        let at = put_number_1(out, at, feed_count);
+        Put { number: 0, at }
+    }
+
+    // A string alone, as an EnterShow's name is.
+    pub fn write_name(out: &mut [u8], at: usize, feed_name: &[u16]) -> Put
+        ensures { λ r. ⌜ (r, now (out .exit)) ≡ putAt ucs2 (now («feed_name» .entry)) at (now (out .entry)) ⌝ }
+    {
+        EnterShow::write_to_bytes(out, at, feed_name)
+    }
+}
+
+// A frame of a laser feed: written only.
+pub struct LaserFeedFrame;
+
+impl LaserFeedFrame {
+    pub const CONTENT_TYPE: u32 = 0x00030200;
+
+    // The frame up to its points.
+    pub fn write_head(
+        out: &mut [u8],
+        at: usize,
+        source_key: u32,
+        feed_index: u8,
+        frame_sequence: u32,
+        point_count: usize,
+    ) -> Put
+        ensures { λ r. ⌜ (r, now (out .exit)) ≡ putHead laserFeedFrameHead («source_key», («feed_index», «frame_sequence»)) 2 «point_count» at (now (out .entry)) ⌝ }
+    {
+        let number = weigh(false, 65536 <= point_count, at, 11, out.len());
+        if number != 0 {
+            return Put { number, at };
+        }
+        let at = put_u32(out, at, source_key);
+        let at = put_u8(out, at, feed_index);
+        let at = put_u32(out, at, frame_sequence);
+        let at = put_number_2(out, at, point_count);
+        Put { number: 0, at }
+    }
+}
+
+// A point of a frame.
+pub struct LaserPoint {
+    pub x_low_byte: u8,
+    pub y_low_byte: u8,
+    // x in the low nibble, y in the high one
+    pub xy_high_nibbles: u8,
+    // R5 G6 B5
+    pub color: u16,
+}
+
+impl LaserPoint {
+    pub fn size_bytes() -> usize
+        ensures { λ r. ⌜ r ≡ size laserPointFormat (0, (0, (0, 0))) ⌝ }
+    {
+        5
+    }
+
+    pub fn write_to_bytes(self, out: &mut [u8], at: usize) -> Put
+        ensures { λ r. ⌜ (r, now (out .exit)) ≡ putAt laserPointFormat (pointValue self) at (now (out .entry)) ⌝ }
+    {
+        let len = LaserPoint::size_bytes();
+        let number = weigh(false, false, at, len, out.len());
+        if number != 0 {
+            return Put { number, at };
+        }
+        let at = put_u8(out, at, self.x_low_byte);
+        let at = put_u8(out, at, self.y_low_byte);
+        let at = put_u8(out, at, self.xy_high_nibbles);
+        let at = put_u16(out, at, self.color);
+        Put { number: 0, at }
     }
 }
 
