@@ -20,10 +20,6 @@ use Rattle.protocol.proofs.Lookup.{layer-found}
 use Rattle.citp.specs.Says.{headerWith, contentIn}
 use Rattle.citp.specs.declared.LayerHeader.{LayerHeader}
 
--- a layer is found by its cookie, in whichever order they are tried
-pub found-at : (l : Layer) {c : ℕ} → c ≡ cookie l → some l ≡ layerOf c
-found-at l e = sym (ap layerOf e ∙ layer-found l)
-
 -- ---- a body, by its layer
 
 module _ (l : Layer) (start extent type hint : ℕ) {b : Body View} where

@@ -18,32 +18,16 @@ use Rattle.fptc.specs.Says as fptc
 use Rattle.fsel.specs.Says as fsel
 use Rattle.finf.specs.Says as finf
 use Rattle.caex.specs.Says as caex
-use Rattle.citp.specs.declared.Layer.{Layer}
 use Rattle.citp.specs.declared.LayerHeader.{LayerHeader}
 use Rattle.citp.specs.declared.LayerHeaderRead.{LayerHeaderRead}
 use Rattle.citp.specs.declared.LayerHeaderRead.the-variants as layer-header
-use Rattle.citp.specs.declared.LayerFound.{LayerFound}
 use Rattle.citp.specs.declared.Message.{Message}
 use Rattle.citp.specs.declared.Report.{Report}
 use Rattle.citp.specs.declared.PacketReport.{PacketReport}
 use Rattle.citp.specs.declared.Step.{Step}
-use Rattle.citp.specs.declared.Layer.the-variants as layer-case
-use Rattle.citp.specs.declared.LayerFound.the-variants as found
 use Rattle.citp.specs.declared.Message.the-variants as message
 use Rattle.citp.specs.declared.Report.the-variants as content
 use Rattle.citp.specs.declared.Step.the-variants as step
-
-abbrev pub layerIs : Layer → layer.Layer
-layerIs layer-case.Pinf = layer.PINF
-layerIs layer-case.Sdmx = layer.SDMX
-layerIs layer-case.Fptc = layer.FPTC
-layerIs layer-case.Fsel = layer.FSEL
-layerIs layer-case.Finf = layer.FINF
-layerIs layer-case.Caex = layer.CAEX
-
-abbrev pub layerSays : LayerFound → Option layer.Layer
-layerSays (found.Known l) = some (layerIs l)
-layerSays found.Unknown = none
 
 -- a layer header with or without a content hint
 abbrev pub headerWith : Bool → Format

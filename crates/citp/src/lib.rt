@@ -9,13 +9,16 @@ ghost use Rattle.format.specs.View.{view};
 ghost use mathlib.Core.Option.{some};
 ghost use Rattle.protocol.specs.Step.{readBody, contentOf, readLayer, contentAt, stepAt};
 ghost use Rattle.header.specs.Says.{headerValue};
-ghost use Rattle.citp.specs.Says.{layerIs, layerSays, layerHeaderSays, headerWith, contentIn, startNumber, messageKind, reportSays, packetSays, stepSays, bodyPlace, bodyOfReport};
+ghost use Rattle.layers.specs.Says.{layerIs};
+ghost use Rattle.citp.specs.Says.{layerHeaderSays, headerWith, contentIn, startNumber, messageKind, reportSays, packetSays, stepSays, bodyPlace, bodyOfReport};
 use caex::Caex;
 use finf::Finf;
 use fptc::Fptc;
 use fsel::Fsel;
 use header::Header;
 use header::HeaderRead;
+use layers::Layer;
+use layers::LayerFound;
 use pinf::Pinf;
 use sdmx::Sdmx;
 use wire::Block;
@@ -23,63 +26,6 @@ use wire::U32Read;
 
 // The bytes of the largest packet.
 pub const LIMIT: usize = 16_777_216;
-
-// ---- layers
-
-pub enum Layer {
-    Pinf,
-    Sdmx,
-    Fptc,
-    Fsel,
-    Finf,
-    Caex,
-}
-
-pub enum LayerFound {
-    Known(Layer),
-    Unknown,
-}
-
-impl Layer {
-    // The layer of a cookie: the first in the order below that has it.
-    pub fn of(cookie: u32) -> LayerFound
-        ensures { λ r. ⌜ layerSays r ≡ layerOf cookie ⌝ }
-    {
-        if cookie == Pinf::COOKIE {
-            return LayerFound::Known(Layer::Pinf);
-        }
-        if cookie == Sdmx::COOKIE {
-            return LayerFound::Known(Layer::Sdmx);
-        }
-        if cookie == Fptc::COOKIE {
-            return LayerFound::Known(Layer::Fptc);
-        }
-        if cookie == Fsel::COOKIE {
-            return LayerFound::Known(Layer::Fsel);
-        }
-        if cookie == Finf::COOKIE {
-            return LayerFound::Known(Layer::Finf);
-        }
-        if cookie == Caex::COOKIE {
-            return LayerFound::Known(Layer::Caex);
-        }
-        LayerFound::Unknown
-    }
-
-    // The length of its headers, with the base header.
-    pub fn header_length(self) -> usize
-        ensures { λ r. ⌜ r ≡ headerLength (layerIs self) ⌝ }
-    {
-        match self {
-            Layer::Pinf => Pinf::HEADER_LENGTH,
-            Layer::Sdmx => Sdmx::HEADER_LENGTH,
-            Layer::Fptc => Fptc::HEADER_LENGTH,
-            Layer::Fsel => Fsel::HEADER_LENGTH,
-            Layer::Finf => Finf::HEADER_LENGTH,
-            Layer::Caex => Caex::HEADER_LENGTH,
-        }
-    }
-}
 
 // ---- reports
 

@@ -5,3 +5,4 @@ pub mod Judging
 pub mod Weighing
 pub mod Bodies
 pub mod Loops
+pub mod Heads

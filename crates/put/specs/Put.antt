@@ -1,11 +1,12 @@
 -- What a write at a place of an output does, its number, and what a body's writer answers.
-use Prim.Native.Nat.{ℕ, zero, suc, _+_, min, max}
+use Prim.Native.Nat.{ℕ, zero, suc, _+_, _^_, min, max}
 use mathlib.Core.Path.{_≡_}
-use mathlib.Core.Bool.{Bool}
+use mathlib.Core.Bool.{Bool, _||_}
 use mathlib.Core.List.{List}
+use lib.Dec.{leb}
 use lib.ListN.{length}
 use lib.Seq.{sets}
-use Rattle.format.specs.Format.{Format, Value, encode}
+use Rattle.format.specs.Format.{Format, Value, encode, number, _&_}
 use Rattle.format.specs.Fault.{holdsZero, tooLong, weighed}
 use Rattle.put.specs.declared.Put.{Put}
 
@@ -43,3 +44,7 @@ putJudged zeros long f v at out = settled (weighed limit zeros long (at + length
 -- a body at a place: what its `write_to_bytes` answers, and the output after it
 abbrev pub putAt : (f : Format) → Value f → (at : ℕ) (out : List ℕ) → Put × List ℕ
 putAt f v at out = putJudged (holdsZero f v) (tooLong f v) f v at out
+
+-- a head at a place: the fields, then a count in a field of w bytes, which it may be too long for
+abbrev pub putHead : (f : Format) → Value f → (w count at : ℕ) (out : List ℕ) → Put × List ℕ
+putHead f v w count at out = putJudged (holdsZero f v) (tooLong f v || leb (256 ^ w) count) (f & number w) (v, count) at out

@@ -1,8 +1,12 @@
--- The code's kinds and turns are the definition's: nothing is lost.
+-- The code's kinds, their figures and the turns are the definition's: nothing is lost.
+use Prim.Native.Nat.{ℕ}
 use mathlib.Core.Path.{_≡_, refl, ap}
+use Rattle.protocol.specs.Layer as layer
 use Rattle.protocol.specs.Kind as kind
 use Rattle.writing.specs.Writer as writing
-use Rattle.turns.specs.Says.{kindIs, turnIs}
+use Rattle.layers.proofs.Exact.{isLayer, layer-exact}
+use Rattle.turns.specs.Says.{kindIs, turnIs, figuresSay}
+use Rattle.turns.specs.declared.Figures.{Figures}
 use Rattle.turns.specs.declared.Kind.{Kind}
 use Rattle.turns.specs.declared.Kind.the-variants as kind-case
 use Rattle.turns.specs.declared.Turn.{Turn}
@@ -63,3 +67,9 @@ turn-exact turn-case.Idle = refl
 turn-exact (turn-case.Body k) = ap turn-case.Body (kind-exact k)
 turn-exact (turn-case.Items k n) = ap (λ (j : Kind). turn-case.Items j n) (kind-exact k)
 turn-exact (turn-case.Parts n i) = refl
+
+abbrev figuresRead : ℕ × (layer.Layer × ℕ) → Figures
+figuresRead (i, (l, t)) = record { index = i; layer = isLayer l; «content_type» = t }
+
+pub figures-exact : (r : Figures) → r ≡ figuresRead (figuresSay r)
+figures-exact r = rw (← layer-exact (r .layer)) refl

@@ -16,10 +16,11 @@ use Rattle.put.specs.declared.Put.{Put}
 use Rattle.put.proofs.Writing.{put-nil, put-pair, put-as}
 use Rattle.put.proofs.Weighing.{passed}
 use Rattle.put.proofs.Bodies.{Sized, sized-whole, Weighed, weight-head, refused, taken, answer-moved, answer-number}
-use Rattle.turns.specs.Says.{layerIs, kindIs, figuresSay, figuresOf, hintWidth}
+use Rattle.layers.specs.Says.{layerIs}
+use Rattle.turns.specs.Says.{kindIs, figuresSay, figuresOf, hintWidth}
 use Rattle.turns.specs.declared.Kind.{Kind}
 use Rattle.turns.specs.declared.Figures.{Figures}
-use Rattle.turns.specs.declared.Layer as declared
+use Rattle.layers.specs.declared.Layer as declared
 
 -- a row is a kind's figures
 pub row-as : {k j : Kind} {r : Figures} {n t : ℕ} {l : declared.Layer}

@@ -1,25 +1,16 @@
--- Which layer, kind and turn of the definition those of the code are, and what a kind's figures say.
+-- Which kind and turn of the definition those of the code are, and what a kind's figures say.
 use Prim.Native.Nat.{ℕ}
 use lib.Dec.{ltb}
 use Rattle.format.specs.Format.{pick}
 use Rattle.protocol.specs.Layer as layer
 use Rattle.protocol.specs.Kind as kind
 use Rattle.writing.specs.Writer as writing
-use Rattle.turns.specs.declared.Layer.{Layer}
-use Rattle.turns.specs.declared.Layer.the-variants as layer-case
+use Rattle.layers.specs.Says.{layerIs}
 use Rattle.turns.specs.declared.Figures.{Figures}
 use Rattle.turns.specs.declared.Kind.{Kind}
 use Rattle.turns.specs.declared.Kind.the-variants as kind-case
 use Rattle.turns.specs.declared.Turn.{Turn}
 use Rattle.turns.specs.declared.Turn.the-variants as turn-case
-
-abbrev pub layerIs : Layer → layer.Layer
-layerIs layer-case.Pinf = layer.PINF
-layerIs layer-case.Sdmx = layer.SDMX
-layerIs layer-case.Fptc = layer.FPTC
-layerIs layer-case.Fsel = layer.FSEL
-layerIs layer-case.Finf = layer.FINF
-layerIs layer-case.Caex = layer.CAEX
 
 abbrev pub kindIs : Kind → kind.Kind
 kindIs kind-case.EnterShow = kind.EnterShow

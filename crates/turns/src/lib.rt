@@ -9,7 +9,7 @@ ghost use Rattle.protocol.specs.Message.{headerOf};
 ghost use Rattle.format.specs.Format.{number, _&_};
 ghost use Rattle.put.specs.Put.{Writes, putJudged};
 ghost use Rattle.writing.specs.Writer.{isIdle, isBody, isItem, isIdentifier, isData, isClose, behindHeaders, left, identifiersLeft, itemsDue, partsDue};
-ghost use Rattle.turns.specs.Says.{layerIs, kindIs, figuresSay, figuresOf, hintWidth, turnIs};
+ghost use Rattle.turns.specs.Says.{kindIs, figuresSay, figuresOf, hintWidth, turnIs};
 use caex::Caex;
 use caex::EnterShow;
 use caex::FixtureList;
@@ -17,27 +17,23 @@ use caex::FixtureRemove;
 use caex::LaserFeedControl;
 use caex::LaserFeedFrame;
 use caex::LaserFeedList;
-use finf::Finf;
 use finf::Fram;
 use finf::SFra;
-use fptc::Fptc;
 use fptc::Ptch;
 use fptc::SPtc;
 use fptc::UPtc;
 use fsel::DeSe;
-use fsel::Fsel;
 use fsel::Sele;
 use header::Header;
+use layers::Layer;
 use pinf::PLoc;
 use pinf::PNam;
-use pinf::Pinf;
 use put::Put;
 use put::put_u32;
 use put::weigh;
 use sdmx::Capa;
 use sdmx::ChBk;
 use sdmx::ChLs;
-use sdmx::Sdmx;
 use sdmx::Sxus;
 use sdmx::UNam;
 
@@ -73,45 +69,6 @@ pub enum Turn {
     Items(Kind, usize),
     // in a fixture: so many fixtures are due behind it, and so many identifiers, then its data
     Parts(usize, usize),
-}
-
-// The layers, as the walk has them.
-pub enum Layer {
-    Pinf,
-    Sdmx,
-    Fptc,
-    Fsel,
-    Finf,
-    Caex,
-}
-
-impl Layer {
-    pub fn cookie(self) -> u32
-        ensures { λ r. ⌜ r ≡ cookie (layerIs self) ⌝ }
-    {
-        match self {
-            Layer::Pinf => Pinf::COOKIE,
-            Layer::Sdmx => Sdmx::COOKIE,
-            Layer::Fptc => Fptc::COOKIE,
-            Layer::Fsel => Fsel::COOKIE,
-            Layer::Finf => Finf::COOKIE,
-            Layer::Caex => Caex::COOKIE,
-        }
-    }
-
-    // The length of its headers, with the base header.
-    pub fn header_length(self) -> usize
-        ensures { λ r. ⌜ r ≡ headerLength (layerIs self) ⌝ }
-    {
-        match self {
-            Layer::Pinf => Pinf::HEADER_LENGTH,
-            Layer::Sdmx => Sdmx::HEADER_LENGTH,
-            Layer::Fptc => Fptc::HEADER_LENGTH,
-            Layer::Fsel => Fsel::HEADER_LENGTH,
-            Layer::Finf => Finf::HEADER_LENGTH,
-            Layer::Caex => Caex::HEADER_LENGTH,
-        }
-    }
 }
 
 pub struct Figures {

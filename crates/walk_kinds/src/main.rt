@@ -1,16 +1,16 @@
 // Walks a stored stream of packets from standard input and writes a line for each, with the items of its lists.
-use caex::Fixture;
-use caex::Fixtures;
-use caex::FixturesNext;
-use caex::FloatBits;
-use caex::Identifier;
-use caex::Identifiers;
-use caex::IdentifiersNext;
 use citp::Cursor;
 use citp::Message;
 use citp::PacketReport;
 use citp::Report;
 use citp::Step;
+use fixture::Fixture;
+use fixture::Fixtures;
+use fixture::FixturesNext;
+use fixture::FloatBits;
+use fixture::Identifier;
+use fixture::Identifiers;
+use fixture::IdentifiersNext;
 use libc::STDIN_FILENO;
 use libc::STDOUT_FILENO;
 use sdmx::ChannelLevel;

@@ -2,7 +2,8 @@ use denote.Ref.{now}
 use native.Mathlib.Omega.{arith}
 use borrow.Author.Needs.{needs}
 use Rattle.format.proofs.Chain.{met}
-use Rattle.citp.specs.Says.{layerIs, layerHeaderSays}
+use Rattle.layers.specs.Says.{layerIs}
+use Rattle.citp.specs.Says.{layerHeaderSays}
 use Rattle.citp.proofs.Reports.{layer-short, layer-unread, layer-read, header-seen}
 use Rattle.citp.proofs.layer_report.Statement.{statement}
 use Rattle.citp.proofs.layer_report.Tie as tie

@@ -3,7 +3,7 @@ use borrow.Author.Needs.{needs}
 use borrow.Author.Tests.{lt-ltb, le-ltb}
 use Rattle.format.proofs.Chain.{met}
 use Rattle.protocol.specs.Step.{contentAt}
-use Rattle.citp.specs.Says.{layerSays}
+use Rattle.layers.specs.Says.{layerSays}
 use Rattle.citp.proofs.packet_report.Statement.{statement}
 use Rattle.citp.proofs.packet_report.Tie as tie
 

@@ -1,6 +1,6 @@
 use borrow.Author.Needs.{needs}
 use Rattle.format.specs.Format.{size}
-use Rattle.caex.proofs.Heads.{counted}
+use Rattle.put.proofs.Heads.{counted}
 use Rattle.caex.proofs.FixtureList.write_head.Statement.{statement}
 use Rattle.caex.proofs.FixtureList.write_head.Tie as tie
 

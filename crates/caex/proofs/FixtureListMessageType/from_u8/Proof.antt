@@ -1,6 +1,6 @@
 use Prim.Native.Nat.{_≤_}
 use native.Mathlib.Omega.{arith}
-use Rattle.caex.proofs.Codes.{code-above}
+use Rattle.fixture.proofs.Codes.{code-above}
 use Rattle.caex.proofs.Reading.{needs}
 use Rattle.caex.proofs.FixtureListMessageType.from_u8.Statement.{statement}
 use Rattle.caex.proofs.FixtureListMessageType.from_u8.Tie as tie
