@@ -1,3 +1,4 @@
 pub mod Reports
 pub mod Steps
 pub mod LayerOf
+pub mod Exact

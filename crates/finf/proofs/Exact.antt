@@ -3,19 +3,27 @@ use Prim.Native.Nat.{ℕ}
 use mathlib.Core.Path.{_≡_, refl}
 use Rattle.format.specs.View.{View, Seen, seen, missed}
 use Rattle.finf.specs.Says.{sfra, fram, sfraSays, framSays}
+use Rattle.finf.specs.declared.SFra.{SFra}
+use Rattle.finf.specs.declared.Fram.{Fram}
 use Rattle.finf.specs.declared.SFraRead.{SFraRead}
 use Rattle.finf.specs.declared.FramRead.{FramRead}
 use Rattle.finf.specs.declared.SFraRead.the-variants as sfra-read
 use Rattle.finf.specs.declared.FramRead.the-variants as fram-read
 
+abbrev pub sfraOf : View sfra → SFra
+sfraOf (a, a′) = record { «fixture_identifiers» = record { at = a; left = a′ } }
+
 abbrev sfraRead : Seen (View sfra) → SFraRead
-sfraRead = elim [ seen (a, a′) e ↦ sfra-read.Read (record { «fixture_identifiers» = record { at = a; left = a′ } }) (record { at = e }) | missed n ↦ sfra-read.Refused n ]
+sfraRead = elim [ seen v e ↦ sfra-read.Read (sfraOf v) (record { at = e }) | missed n ↦ sfra-read.Refused n ]
 
 pub sfra-exact : (r : SFraRead) → r ≡ sfraRead (sfraSays r)
 sfra-exact = elim [ sfra-read.Read x c ↦ refl | sfra-read.Refused n ↦ refl ]
 
+abbrev pub framOf : View fram → Fram
+framOf (a, (b, (d, (f, f′)))) = record { «fixture_identifier» = a; «frame_filter_count» = b; «frame_gobo_count» = d; «frame_names» = record { start = f; len = f′ } }
+
 abbrev framRead : Seen (View fram) → FramRead
-framRead = elim [ seen (a, (b, (d, (f, f′)))) e ↦ fram-read.Read (record { «fixture_identifier» = a; «frame_filter_count» = b; «frame_gobo_count» = d; «frame_names» = record { start = f; len = f′ } }) (record { at = e }) | missed n ↦ fram-read.Refused n ]
+framRead = elim [ seen v e ↦ fram-read.Read (framOf v) (record { at = e }) | missed n ↦ fram-read.Refused n ]
 
 pub fram-exact : (r : FramRead) → r ≡ framRead (framSays r)
 fram-exact = elim [ fram-read.Read x c ↦ refl | fram-read.Refused n ↦ refl ]
