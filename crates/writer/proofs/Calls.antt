@@ -2,23 +2,25 @@
 use Prim.Native.Nat.{ℕ, zero, suc, _+_, _^_}
 use mathlib.Core.Path.{_≡_, refl, sym, ap, _∙_}
 use mathlib.Core.Bool.{Bool, true, false, _&&_, _||_}
-use mathlib.Core.List.{List, _++_}
+use mathlib.Core.List.{List}
 use native.Mathlib.Nat.{add-zero}
 use native.Mathlib.Omega.{arith}
 use lib.ListN.{length}
 use lib.Seq.{sets}
 use lib.Dec.{leb}
-use Rattle.format.specs.Format.{Format, Value, number, _&_, encode, pick}
+use Rattle.format.specs.Format.{Format, Value, number, _&_, encode}
 use Rattle.format.specs.Fault.{holdsZero, tooLong, weighed}
 use Rattle.protocol.specs.Layer.{header, layerHeader}
-use Rattle.protocol.specs.Kind.{Kind, layer, contentType}
+use Rattle.protocol.specs.Kind.{Kind, ChLs, layer, contentType, bodyOf}
 use Rattle.protocol.specs.Message.{headerOf, headersOf}
-use Rattle.writing.specs.Call.{Part, Layout, plain, counted, layoutOf, layoutZero, layoutLong, layoutBytes, Call, opens, give, closes, bytesOf, zeroIn, tooLongIn}
-use Rattle.writing.specs.Writer.{Turn, idle, bodyDue, Writer, isIdle, isClose, behindHeaders, partInTurn, inTurn, nextPart, nextTurn, startOf, stored, numberOf, settled, Outcome, apply}
-use Rattle.put.specs.Put.{limit, Weighs, Writes, putJudged}
+use Rattle.writing.specs.Call.{Part, Layout, plain, counted, layoutOf, layoutZero, layoutLong, layoutBytes, Call, opens, give, closes, body, bytesOf, zeroIn, tooLongIn}
+use Rattle.writing.specs.Writer.{Turn, idle, bodyDue, Writer, isIdle, isClose, behindHeaders, partInTurn, inTurn, nextPart, nextTurn, startOf, stored, settled, apply}
+use Rattle.put.specs.Put.{limit, Weighs, Writes, putJudged, putAt}
 use Rattle.put.specs.declared.Put.{Put}
 use Rattle.put.proofs.Bodies.{answer-number, answer-moved, answer-kept}
-use Rattle.writer.specs.Says.{stateAfter}
+use Rattle.put.proofs.Weighing.{passed}
+use Rattle.writer.specs.Says.{stateAfter, writtenSays, chlsDue, chlsPlace, chlsAnswer}
+use Rattle.writer.specs.declared.Written.{Written}
 
 -- ---- out of turn
 
@@ -129,3 +131,21 @@ kept (suc n) place t w z = (refl, refl)
 
 pub moved : (n place : ℕ) (t : Turn) (w : Writer) → n ≡ 0 → (_≡_ {A = ℕ} 0 n) × (record { turn = t; at = place } ≡ stateAfter n place t w)
 moved n place t w z = rw z (refl, refl)
+
+-- ---- a channel list
+
+-- a write placed past the largest packet's end leaves the output as it was
+past-end : (f : Format) (v : Value f) (o : List ℕ) {p : Put} {after : List ℕ} → _≡_ {A = Put × List ℕ} (p, after) (putAt f v 16777217 o) → after ≡ o
+past-end f v o e = ap (λ (x : Put × List ℕ). x .1) (answer-kept _ _ f v 16777217 o e (λ z.
+    let n = passed (holdsZero f v) (tooLong f v) (16777217 + length (encode f v)) (length o) (sym (answer-number _ _ f v 16777217 o e) ∙ z) in
+    absurd (omega (arith, n .within))))
+
+-- its place, its write's answer and its own make what the call does
+pub channel-list : (v : Value (bodyOf ChLs)) (w : Writer) (o : List ℕ) (place : ℕ) {p : Put} {after : List ℕ} (r : Written)
+    → place ≡ chlsPlace w → _≡_ {A = Put × List ℕ} (p, after) (putAt (bodyOf ChLs) v place o) → chlsAnswer r p w
+    → writtenSays r after ≡ apply (give (body ChLs v)) w o
+channel-list v w o place {p} {after} r e a s = go (chlsDue w) refl
+  where
+    go : (due : Bool) → chlsDue w ≡ due → writtenSays r after ≡ apply (give (body ChLs v)) w o
+    go true d = gave (body ChLs v) w o (sym d) refl (rw (e, d) at a) (rw d at s) refl
+    go false d = rw (past-end (bodyOf ChLs) v o (rw (e, d) at a)) (out-of-turn (give (body ChLs v)) w (sym d) refl (rw d at s))

@@ -1,6 +1,11 @@
 -- Which state of the definition a state of the code is, and what a call's answer says.
 use Prim.Native.Nat.{ℕ, zero, suc}
+use mathlib.Core.Path.{_≡_}
+use mathlib.Core.Bool.{Bool, _&&_}
 use mathlib.Core.List.{List}
+use Rattle.format.specs.Format.{pick}
+use Rattle.protocol.specs.Kind.{ChLs}
+use Rattle.put.specs.declared.Put.{Put}
 use Rattle.writing.specs.Writer as writing
 use Rattle.writing.specs.Writer.{Outcome}
 use Rattle.turns.specs.Says.{turnIs}
@@ -18,3 +23,16 @@ writtenSays r out = record { number = r .number; writer = stateOf (r .writer); o
 abbrev pub stateAfter : (number place : ℕ) → writing.Turn → writing.Writer → writing.Writer
 stateAfter zero place next w = record { turn = next; at = place }
 stateAfter (suc n) place next w = w
+
+-- whether a channel list is due
+abbrev pub chlsDue : writing.Writer → Bool
+chlsDue w = writing.isBody ChLs (w .turn) && writing.behindHeaders (w .turn) (w .at)
+
+-- where it is written: past the largest packet's end where it is not due, so that nothing is
+abbrev pub chlsPlace : writing.Writer → ℕ
+chlsPlace w = pick (chlsDue w) (w .at) 16777217
+
+-- the answer of its call, from that of its write
+abbrev pub chlsAnswer : Written → Put → writing.Writer → Type 0
+chlsAnswer r p w =
+    (r .number ≡ pick (chlsDue w) (p .number) 14) × (stateOf (r .writer) ≡ pick (chlsDue w) (stateAfter (p .number) (p .at) (writing.itemsDue ChLs 0) w) w)

@@ -13,7 +13,7 @@ ghost use Rattle.caex.specs.Write.{pointValue};
 ghost use Rattle.fixture.specs.Codes.{identifierTypeCode};
 ghost use Rattle.fixture.specs.Write.{dataValue};
 ghost use Rattle.turns.specs.Says.{kindIs, turnIs};
-ghost use Rattle.writer.specs.Says.{stateOf, writtenSays, stateAfter};
+ghost use Rattle.writer.specs.Says.{stateOf, writtenSays, stateAfter, chlsPlace, chlsAnswer};
 use caex::EnterShow;
 use caex::FixtureList;
 use caex::FixtureListMessageType;
@@ -23,6 +23,7 @@ use caex::LaserFeedFrame;
 use caex::LaserFeedList;
 use caex::LaserPoint;
 use chls::write_first;
+use chls::write_to_bytes;
 use finf::Fram;
 use finf::SFra;
 use fixture::Fixture;
@@ -36,6 +37,7 @@ use fsel::DeSe;
 use fsel::Sele;
 use pinf::PLoc;
 use pinf::PNam;
+use put::LIMIT;
 use put::Put;
 use put::put_number_4;
 use put::weigh;
@@ -266,7 +268,35 @@ impl Writer {
         self.out_of_turn()
     }
 
-    // The first of sixteen records by value, all of them where the count is larger.
+    // Where a channel list is written: past the largest packet's end where it is not due, so that nothing is.
+    fn chls_place(self) -> usize
+        ensures { λ r. ⌜ r ≡ chlsPlace (stateOf self) ⌝ }
+    {
+        if self.body_is_due(Kind::ChLs) {
+            return self.at;
+        }
+        LIMIT + 1
+    }
+
+    fn after_chls(self, put: Put) -> Written
+        ensures { λ r. ⌜ chlsAnswer r put (stateOf self) ⌝ }
+    {
+        if self.body_is_due(Kind::ChLs) {
+            return self.after(put, Turn::Items(Kind::ChLs, 0));
+        }
+        self.out_of_turn()
+    }
+
+    // From the caller's own records. A function over a slice of structs is proved by hand: every decision is in the functions that it calls.
+    pub fn chls(self, out: &mut [u8], channel_levels: &[ChannelLevel]) -> Written
+        ensures { λ r. ⌜ writtenSays r (now (out .exit)) ≡ apply (give (body kinds.ChLs (map levelValue (now («channel_levels» .entry))))) (stateOf self) (now (out .entry)) ⌝ }
+    {
+        let at = self.chls_place();
+        let put = write_to_bytes(out, at, channel_levels);
+        self.after_chls(put)
+    }
+
+    // The first of sixteen records by value, all of them where the count is larger: a caller of this one needs no proof by hand.
     pub fn chls_first(
         self,
         out: &mut [u8],
@@ -275,11 +305,9 @@ impl Writer {
     ) -> Written
         ensures { λ r. ⌜ writtenSays r (now (out .exit)) ≡ apply (give (body kinds.ChLs (map levelValue (take count «channel_levels»)))) (stateOf self) (now (out .entry)) ⌝ }
     {
-        if self.body_is_due(Kind::ChLs) {
-            let put = write_first(out, self.at, channel_levels, count);
-            return self.after(put, Turn::Items(Kind::ChLs, 0));
-        }
-        self.out_of_turn()
+        let at = self.chls_place();
+        let put = write_first(out, at, channel_levels, count);
+        self.after_chls(put)
     }
 
     pub fn sxus(self, out: &mut [u8], universe_index: u8, connection_string: &[u8]) -> Written

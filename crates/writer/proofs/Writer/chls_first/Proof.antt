@@ -1,8 +1,7 @@
 use borrow.Author.Needs.{needs}
-use mathlib.Core.Path.{refl}
-use Rattle.writer.proofs.Calls.{gave, out-of-turn}
+use Rattle.writer.proofs.Calls.{channel-list}
 use Rattle.writer.proofs.Writer.chls_first.Statement.{statement}
 use Rattle.writer.proofs.Writer.chls_first.Tie as tie
 
 pub chls-first-spec : {M : Type 1} → statement M
-chls-first-spec = tie.close (tie.spec (λ c κs. tt) (λ c κs. tt) (λ c κs. tt) (λ c. search needs) (λ c. let w = c .before .before .before in let i = w .before .before in gave _ _ _ (i .before .body-is-due .ensures) (i .if1 .taken) (w .write-first .ensures) (c .after .ensures) refl) (λ c κs. tt) (λ c. out-of-turn _ _ (c .before .before .body-is-due .ensures) (c .before .if1 .left) (c .out-of-turn .ensures)))
+chls-first-spec = tie.close (tie.spec (λ c κs. tt) (λ c κs. tt) (λ c κs. tt) (λ c. search needs) (λ c. let w = c .before .before .before in channel-list _ _ _ _ (c .after-chls .result) (w .before .before .chls-place .ensures) (w .write-first .ensures) (c .after-chls .ensures)))
