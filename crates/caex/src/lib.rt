@@ -99,14 +99,14 @@ pub enum FixtureListMessageType {
     ExchangeFixture,
 }
 
-enum FixtureListMessageTypeRead {
+pub enum FixtureListMessageTypeRead {
     Read(FixtureListMessageType),
     // 9
     Unknown,
 }
 
 impl FixtureListMessageType {
-    fn from_u8(code: u8) -> FixtureListMessageTypeRead
+    pub fn from_u8(code: u8) -> FixtureListMessageTypeRead
         ensures { λ r. ⌜ messageTypeSays r ≡ inRange 3 9 code ⌝ }
     {
         match code {

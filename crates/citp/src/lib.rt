@@ -305,7 +305,7 @@ impl Message {
 }
 
 // Where the body of a message stands in the stream; of other reports nothing.
-fn body_place(report: Report, size: u32) -> Block
+pub fn body_place(report: Report, size: u32) -> Block
     ensures { λ r. ⌜ (r .start, r .len) ≡ bodyPlace size (reportSays report) ⌝ }
 {
     match report {

@@ -237,6 +237,7 @@ impl ChBk {
 }
 
 // A record of a channel list.
+#[repr(C)]
 pub struct ChannelLevel {
     // 0-based
     pub universe_index: u8,
