@@ -1,7 +1,8 @@
 -- What an answer says determines it: nothing is lost.
 use Prim.Native.Nat.{ℕ}
 use mathlib.Core.Path.{_≡_, refl}
-use Rattle.format.specs.View.{View, Seen, seen, missed}
+use Rattle.format.specs.View.{View}
+use Rattle.wire.proofs.Says.{readBy}
 use Rattle.fsel.specs.Says.{sele, dese, seleSays, deseSays}
 use Rattle.fsel.specs.declared.Sele.{Sele}
 use Rattle.fsel.specs.declared.DeSe.{DeSe}
@@ -13,17 +14,11 @@ use Rattle.fsel.specs.declared.DeSeRead.the-variants as dese-read
 abbrev pub seleOf : View sele → Sele
 seleOf (a, (b, (d, d′))) = record { complete = a; reserved = b; «fixture_identifiers» = record { at = d; left = d′ } }
 
-abbrev seleRead : Seen (View sele) → SeleRead
-seleRead = elim [ seen v e ↦ sele-read.Read (seleOf v) (record { at = e }) | missed n ↦ sele-read.Refused n ]
-
-pub sele-exact : (r : SeleRead) → r ≡ seleRead (seleSays r)
+pub sele-exact : (r : SeleRead) → r ≡ readBy sele-read.Read sele-read.Refused seleOf (seleSays r)
 sele-exact = elim [ sele-read.Read x c ↦ refl | sele-read.Refused n ↦ refl ]
 
 abbrev pub deseOf : View dese → DeSe
 deseOf (a, a′) = record { «fixture_identifiers» = record { at = a; left = a′ } }
 
-abbrev deseRead : Seen (View dese) → DeSeRead
-deseRead = elim [ seen v e ↦ dese-read.Read (deseOf v) (record { at = e }) | missed n ↦ dese-read.Refused n ]
-
-pub dese-exact : (r : DeSeRead) → r ≡ deseRead (deseSays r)
+pub dese-exact : (r : DeSeRead) → r ≡ readBy dese-read.Read dese-read.Refused deseOf (deseSays r)
 dese-exact = elim [ dese-read.Read x c ↦ refl | dese-read.Refused n ↦ refl ]

@@ -1,8 +1,9 @@
 -- What an answer says determines it: nothing is lost.
 use Prim.Native.Nat.{ℕ}
 use mathlib.Core.Path.{_≡_, refl}
-use Rattle.format.specs.View.{View, Seen, seen, missed, Next, item, done, broken}
+use Rattle.format.specs.View.{View, Next, item, done, broken}
 use Rattle.protocol.specs.Kind.{channelLevelFormat}
+use Rattle.wire.proofs.Says.{readBy}
 use Rattle.sdmx.specs.Says.{capa, unam, chbk, chls, sxus, capaSays, unamSays, chbkSays, chlsSays, sxusSays, channelLevelsNextSays}
 use Rattle.sdmx.specs.declared.Capa.{Capa}
 use Rattle.sdmx.specs.declared.UNam.{UNam}
@@ -25,46 +26,31 @@ use Rattle.sdmx.specs.declared.SxusRead.the-variants as sxus-read
 abbrev pub capaOf : View capa → Capa
 capaOf (a, a′) = record { capabilities = record { at = a; left = a′ } }
 
-abbrev capaRead : Seen (View capa) → CapaRead
-capaRead = elim [ seen v e ↦ capa-read.Read (capaOf v) (record { at = e }) | missed n ↦ capa-read.Refused n ]
-
-pub capa-exact : (r : CapaRead) → r ≡ capaRead (capaSays r)
+pub capa-exact : (r : CapaRead) → r ≡ readBy capa-read.Read capa-read.Refused capaOf (capaSays r)
 capa-exact = elim [ capa-read.Read x c ↦ refl | capa-read.Refused n ↦ refl ]
 
 abbrev pub unamOf : View unam → UNam
 unamOf (a, (b, b′)) = record { «universe_index» = a; «universe_name» = record { start = b; len = b′ } }
 
-abbrev unamRead : Seen (View unam) → UNamRead
-unamRead = elim [ seen v e ↦ unam-read.Read (unamOf v) (record { at = e }) | missed n ↦ unam-read.Refused n ]
-
-pub unam-exact : (r : UNamRead) → r ≡ unamRead (unamSays r)
+pub unam-exact : (r : UNamRead) → r ≡ readBy unam-read.Read unam-read.Refused unamOf (unamSays r)
 unam-exact = elim [ unam-read.Read x c ↦ refl | unam-read.Refused n ↦ refl ]
 
 abbrev pub chbkOf : View chbk → ChBk
 chbkOf (a, (b, (d, (f, f′)))) = record { blind = a; «universe_index» = b; «first_channel» = d; «channel_levels» = record { start = f; len = f′ } }
 
-abbrev chbkRead : Seen (View chbk) → ChBkRead
-chbkRead = elim [ seen v e ↦ chbk-read.Read (chbkOf v) (record { at = e }) | missed n ↦ chbk-read.Refused n ]
-
-pub chbk-exact : (r : ChBkRead) → r ≡ chbkRead (chbkSays r)
+pub chbk-exact : (r : ChBkRead) → r ≡ readBy chbk-read.Read chbk-read.Refused chbkOf (chbkSays r)
 chbk-exact = elim [ chbk-read.Read x c ↦ refl | chbk-read.Refused n ↦ refl ]
 
 abbrev pub chlsOf : View chls → ChLs
 chlsOf (a, a′) = record { «channel_levels» = record { at = a; left = a′ } }
 
-abbrev chlsRead : Seen (View chls) → ChLsRead
-chlsRead = elim [ seen v e ↦ chls-read.Read (chlsOf v) (record { at = e }) | missed n ↦ chls-read.Refused n ]
-
-pub chls-exact : (r : ChLsRead) → r ≡ chlsRead (chlsSays r)
+pub chls-exact : (r : ChLsRead) → r ≡ readBy chls-read.Read chls-read.Refused chlsOf (chlsSays r)
 chls-exact = elim [ chls-read.Read x c ↦ refl | chls-read.Refused n ↦ refl ]
 
 abbrev pub sxusOf : View sxus → Sxus
 sxusOf (a, (b, b′)) = record { «universe_index» = a; «connection_string» = record { start = b; len = b′ } }
 
-abbrev sxusRead : Seen (View sxus) → SxusRead
-sxusRead = elim [ seen v e ↦ sxus-read.Read (sxusOf v) (record { at = e }) | missed n ↦ sxus-read.Refused n ]
-
-pub sxus-exact : (r : SxusRead) → r ≡ sxusRead (sxusSays r)
+pub sxus-exact : (r : SxusRead) → r ≡ readBy sxus-read.Read sxus-read.Refused sxusOf (sxusSays r)
 sxus-exact = elim [ sxus-read.Read x c ↦ refl | sxus-read.Refused n ↦ refl ]
 
 abbrev channelLevelsNextOf : Next (View channelLevelFormat) → ChannelLevelsNext

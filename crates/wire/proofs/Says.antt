@@ -1,10 +1,17 @@
--- What an answer says fixes the answer: each `Says` has an inverse.
+-- What an answer says determines it: each `Says` has an inverse, so nothing is lost.
 use Prim.Native.Nat.{ℕ}
 use mathlib.Core.Path.{_≡_, refl}
 use Rattle.format.specs.View.{Seen, seen, missed, Next, item, done, broken}
 use Rattle.format.specs.Copy.{Answer, took, denied}
 use Rattle.wire.specs.Says.{u8Says, u16Says, u32Says, cstringSays, ucs2Says, blockSays, skipSays, u16ListSays, u32ListSays, itemsSays}
 use Rattle.wire.specs.Says.{u16NextSays, u32NextSays, itemsNextSays, copiedSays}
+use Rattle.wire.specs.declared.Cursor.{Cursor}
+use Rattle.wire.specs.declared.CString.{CString}
+use Rattle.wire.specs.declared.Ucs2.{Ucs2}
+use Rattle.wire.specs.declared.Block.{Block}
+use Rattle.wire.specs.declared.U16List.{U16List}
+use Rattle.wire.specs.declared.U32List.{U32List}
+use Rattle.wire.specs.declared.Items.{Items}
 use Rattle.wire.specs.declared.U8Read.{U8Read}
 use Rattle.wire.specs.declared.U16Read.{U16Read}
 use Rattle.wire.specs.declared.U32Read.{U32Read}
@@ -34,115 +41,82 @@ use Rattle.wire.specs.declared.U32Next.the-variants as u32Next
 use Rattle.wire.specs.declared.ItemsNext.the-variants as itemsNext
 use Rattle.wire.specs.declared.Copied.the-variants as copied
 
-abbrev u8Of : Seen ℕ → U8Read
-u8Of (seen n e) = u8.Read n (record { at = e })
-u8Of (missed k) = u8.Short
+-- the answer about what was read, by its cases: what is seen with the cursor behind it, the number of a refusal
+abbrev pub readBy : {B A R : Type 0} → (A → Cursor → R) → (ℕ → R) → (B → A) → Seen B → R
+readBy read refused of (seen v e) = read (of v) (record { at = e })
+readBy read refused of (missed n) = refused n
 
-pub u8-kept : (r : U8Read) → r ≡ u8Of (u8Says r)
-u8-kept (u8.Read n c) = refl
-u8-kept u8.Short = refl
+-- the answer of a step, by its cases: an item with what is left behind it, the end, the number of a refusal
+abbrev pub nextBy : {B A L R : Type 0} → (A → L → R) → R → (ℕ → R) → (B → A) → (ℕ → ℕ → L) → Next B → R
+nextBy next end refused of rest (item v e n) = next (of v) (rest e n)
+nextBy next end refused of rest done = end
+nextBy next end refused of rest (broken k) = refused k
 
-abbrev u16Of : Seen ℕ → U16Read
-u16Of (seen n e) = u16.Read n (record { at = e })
-u16Of (missed k) = u16.Short
+abbrev same : ℕ → ℕ
+same n = n
 
-pub u16-kept : (r : U16Read) → r ≡ u16Of (u16Says r)
-u16-kept (u16.Read n c) = refl
-u16-kept u16.Short = refl
+abbrev cstringOf : ℕ × ℕ → CString
+cstringOf x = record { start = x .0; len = x .1 }
 
-abbrev u32Of : Seen ℕ → U32Read
-u32Of (seen n e) = u32.Read n (record { at = e })
-u32Of (missed k) = u32.Short
+abbrev ucs2Of : ℕ × ℕ → Ucs2
+ucs2Of x = record { start = x .0; len = x .1 }
 
-pub u32-kept : (r : U32Read) → r ≡ u32Of (u32Says r)
-u32-kept (u32.Read n c) = refl
-u32-kept u32.Short = refl
+abbrev blockOf : ℕ × ℕ → Block
+blockOf x = record { start = x .0; len = x .1 }
 
-abbrev cstringOf : Seen (ℕ × ℕ) → CStringRead
-cstringOf (seen x e) = cstring.Read (record { start = x .0; len = x .1 }) (record { at = e })
-cstringOf (missed k) = cstring.Unended
+abbrev u16ListOf : ℕ × ℕ → U16List
+u16ListOf x = record { at = x .0; left = x .1 }
 
-pub cstring-kept : (r : CStringRead) → r ≡ cstringOf (cstringSays r)
-cstring-kept (cstring.Read x c) = refl
-cstring-kept cstring.Unended = refl
+abbrev u32ListOf : ℕ × ℕ → U32List
+u32ListOf x = record { at = x .0; left = x .1 }
 
-abbrev ucs2Of : Seen (ℕ × ℕ) → Ucs2Read
-ucs2Of (seen x e) = ucs2.Read (record { start = x .0; len = x .1 }) (record { at = e })
-ucs2Of (missed k) = ucs2.Unended
+abbrev itemsOf : ℕ × ℕ → Items
+itemsOf x = record { at = x .0; left = x .1 }
 
-pub ucs2-kept : (r : Ucs2Read) → r ≡ ucs2Of (ucs2Says r)
-ucs2-kept (ucs2.Read x c) = refl
-ucs2-kept ucs2.Unended = refl
+-- ---- fields
 
-abbrev blockOf : Seen (ℕ × ℕ) → BlockRead
-blockOf (seen x e) = block.Read (record { start = x .0; len = x .1 }) (record { at = e })
-blockOf (missed k) = block.Short
+pub u8-kept : (r : U8Read) → r ≡ readBy u8.Read (λ k. u8.Short) same (u8Says r)
+u8-kept = elim [ u8.Read x c ↦ refl | u8.Short ↦ refl ]
 
-pub block-kept : (r : BlockRead) → r ≡ blockOf (blockSays r)
-block-kept (block.Read x c) = refl
-block-kept block.Short = refl
+pub u16-kept : (r : U16Read) → r ≡ readBy u16.Read (λ k. u16.Short) same (u16Says r)
+u16-kept = elim [ u16.Read x c ↦ refl | u16.Short ↦ refl ]
 
-abbrev skipOf : Seen (Unit {0}) → SkipRead
-skipOf (seen u e) = skip.Past (record { at = e })
-skipOf (missed k) = skip.Short
+pub u32-kept : (r : U32Read) → r ≡ readBy u32.Read (λ k. u32.Short) same (u32Says r)
+u32-kept = elim [ u32.Read x c ↦ refl | u32.Short ↦ refl ]
 
-pub skip-kept : (r : SkipRead) → r ≡ skipOf (skipSays r)
-skip-kept (skip.Past c) = refl
-skip-kept skip.Short = refl
+pub cstring-kept : (r : CStringRead) → r ≡ readBy cstring.Read (λ k. cstring.Unended) cstringOf (cstringSays r)
+cstring-kept = elim [ cstring.Read x c ↦ refl | cstring.Unended ↦ refl ]
 
-abbrev u16ListOf : Seen (ℕ × ℕ) → U16ListRead
-u16ListOf (seen x e) = u16List.Read (record { at = x .0; left = x .1 }) (record { at = e })
-u16ListOf (missed k) = u16List.Short
+pub ucs2-kept : (r : Ucs2Read) → r ≡ readBy ucs2.Read (λ k. ucs2.Unended) ucs2Of (ucs2Says r)
+ucs2-kept = elim [ ucs2.Read x c ↦ refl | ucs2.Unended ↦ refl ]
 
-pub u16List-kept : (r : U16ListRead) → r ≡ u16ListOf (u16ListSays r)
-u16List-kept (u16List.Read x c) = refl
-u16List-kept u16List.Short = refl
+pub block-kept : (r : BlockRead) → r ≡ readBy block.Read (λ k. block.Short) blockOf (blockSays r)
+block-kept = elim [ block.Read x c ↦ refl | block.Short ↦ refl ]
 
-abbrev u32ListOf : Seen (ℕ × ℕ) → U32ListRead
-u32ListOf (seen x e) = u32List.Read (record { at = x .0; left = x .1 }) (record { at = e })
-u32ListOf (missed k) = u32List.Short
+pub skip-kept : (r : SkipRead) → r ≡ readBy (λ u c. skip.Past c) (λ k. skip.Short) (λ u. u) (skipSays r)
+skip-kept = elim [ skip.Past c ↦ refl | skip.Short ↦ refl ]
 
-pub u32List-kept : (r : U32ListRead) → r ≡ u32ListOf (u32ListSays r)
-u32List-kept (u32List.Read x c) = refl
-u32List-kept u32List.Short = refl
+pub u16List-kept : (r : U16ListRead) → r ≡ readBy u16List.Read (λ k. u16List.Short) u16ListOf (u16ListSays r)
+u16List-kept = elim [ u16List.Read x c ↦ refl | u16List.Short ↦ refl ]
 
-abbrev itemsOf : Seen (ℕ × ℕ) → ItemsRead
-itemsOf (seen x e) = items.Read (record { at = x .0; left = x .1 }) (record { at = e })
-itemsOf (missed k) = items.Short
+pub u32List-kept : (r : U32ListRead) → r ≡ readBy u32List.Read (λ k. u32List.Short) u32ListOf (u32ListSays r)
+u32List-kept = elim [ u32List.Read x c ↦ refl | u32List.Short ↦ refl ]
 
-pub items-kept : (r : ItemsRead) → r ≡ itemsOf (itemsSays r)
-items-kept (items.Read x c) = refl
-items-kept items.Short = refl
+pub items-kept : (r : ItemsRead) → r ≡ readBy items.Read (λ k. items.Short) itemsOf (itemsSays r)
+items-kept = elim [ items.Read x c ↦ refl | items.Short ↦ refl ]
 
-abbrev u16NextOf : Next ℕ → U16Next
-u16NextOf (item n e n′) = u16Next.Item n (record { at = e; left = n′ })
-u16NextOf done = u16Next.Done
-u16NextOf (broken k) = u16Next.Refused k
+-- ---- steps
 
-pub u16Next-kept : (r : U16Next) → r ≡ u16NextOf (u16NextSays r)
-u16Next-kept (u16Next.Item n l) = refl
-u16Next-kept u16Next.Done = refl
-u16Next-kept (u16Next.Refused k) = refl
+pub u16Next-kept : (r : U16Next) → r ≡ nextBy u16Next.Item u16Next.Done u16Next.Refused same (λ e n. u16ListOf (e, n)) (u16NextSays r)
+u16Next-kept = elim [ u16Next.Item x l ↦ refl | u16Next.Done ↦ refl | u16Next.Refused k ↦ refl ]
 
-abbrev u32NextOf : Next ℕ → U32Next
-u32NextOf (item n e n′) = u32Next.Item n (record { at = e; left = n′ })
-u32NextOf done = u32Next.Done
-u32NextOf (broken k) = u32Next.Refused k
+pub u32Next-kept : (r : U32Next) → r ≡ nextBy u32Next.Item u32Next.Done u32Next.Refused same (λ e n. u32ListOf (e, n)) (u32NextSays r)
+u32Next-kept = elim [ u32Next.Item x l ↦ refl | u32Next.Done ↦ refl | u32Next.Refused k ↦ refl ]
 
-pub u32Next-kept : (r : U32Next) → r ≡ u32NextOf (u32NextSays r)
-u32Next-kept (u32Next.Item n l) = refl
-u32Next-kept u32Next.Done = refl
-u32Next-kept (u32Next.Refused k) = refl
+pub itemsNext-kept : (r : ItemsNext) → r ≡ nextBy itemsNext.Item itemsNext.Done itemsNext.Refused blockOf (λ e n. itemsOf (e, n)) (itemsNextSays r)
+itemsNext-kept = elim [ itemsNext.Item x l ↦ refl | itemsNext.Done ↦ refl | itemsNext.Refused k ↦ refl ]
 
-abbrev itemsNextOf : Next (ℕ × ℕ) → ItemsNext
-itemsNextOf (item x e n′) = itemsNext.Item (record { start = x .0; len = x .1 }) (record { at = e; left = n′ })
-itemsNextOf done = itemsNext.Done
-itemsNextOf (broken k) = itemsNext.Refused k
-
-pub itemsNext-kept : (r : ItemsNext) → r ≡ itemsNextOf (itemsNextSays r)
-itemsNext-kept (itemsNext.Item x l) = refl
-itemsNext-kept itemsNext.Done = refl
-itemsNext-kept (itemsNext.Refused k) = refl
+-- ---- copies
 
 abbrev copiedOf : Answer → Copied
 copiedOf (took n) = copied.Copied n
