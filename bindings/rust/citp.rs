@@ -1,0 +1,480 @@
+//! CITP packets for Rust: the functions of include/citp.h with slices, over the archive libbridge.a (x86-64 Linux).
+//! What each answers, the numbers of refusals, and what ranges and cursors mean is said there. Every function ends, checks its own
+//! input and keeps no state, so all of them are safe.
+
+pub const ENTER_SHOW: u8 = 0;
+pub const FIXTURE_LIST: u8 = 1;
+pub const FIXTURE_REMOVE: u8 = 2;
+pub const LASER_FEED_CONTROL: u8 = 3;
+pub const CAPA: u8 = 4;
+pub const UNAM: u8 = 5;
+pub const CHBK: u8 = 6;
+pub const CHLS: u8 = 7;
+pub const SXUS: u8 = 8;
+pub const PTCH: u8 = 9;
+pub const UPTC: u8 = 10;
+pub const SPTC: u8 = 11;
+pub const SELE: u8 = 12;
+pub const DESE: u8 = 13;
+pub const SFRA: u8 = 14;
+pub const FRAM: u8 = 15;
+pub const PNAM: u8 = 16;
+pub const PLOC: u8 = 17;
+pub const LASER_FEED_LIST: u8 = 18;
+pub const LASER_FEED_FRAME: u8 = 19;
+pub const END: u8 = 0;
+pub const MESSAGE: u8 = 1;
+pub const UNKNOWN_LAYER: u8 = 2;
+pub const UNKNOWN_KIND: u8 = 3;
+pub const FRAGMENT: u8 = 4;
+pub const REFUSED: u8 = 5;
+pub const TURN_IDLE: u8 = 0;
+pub const TURN_BODY: u8 = 1;
+pub const TURN_ITEMS: u8 = 2;
+pub const TURN_PARTS: u8 = 3;
+
+#[repr(C)]
+#[derive(Clone, Copy, Debug, Default, PartialEq, Eq)]
+pub struct Step {
+    pub report: u8,
+    pub number: u8,
+    pub kind: u8,
+    pub request_index: u16,
+    pub part: u16,
+    pub part_count: u16,
+    pub size: u32,
+    pub layer: u32,
+    pub content_type: u32,
+    pub content_hint: u32,
+    pub offset: usize,
+    pub next: usize,
+    pub body_start: usize,
+    pub body_len: usize,
+    pub added: usize,
+}
+
+#[repr(C)]
+#[derive(Clone, Copy, Debug, Default, PartialEq, Eq)]
+pub struct Header {
+    pub number: u8,
+    pub version_major: u8,
+    pub version_minor: u8,
+    pub request_index: u16,
+    pub message_part_count: u16,
+    pub message_part: u16,
+    pub cookie: u32,
+    pub message_size: u32,
+    pub content_type: u32,
+    pub taken: usize,
+}
+
+#[repr(C)]
+#[derive(Clone, Copy, Debug, Default, PartialEq, Eq)]
+pub struct Put {
+    pub number: u8,
+    pub at: usize,
+}
+
+#[repr(C)]
+#[derive(Clone, Copy, Debug, Default, PartialEq, Eq)]
+pub struct StringBody {
+    pub number: u8,
+    pub taken: usize,
+    pub start: usize,
+    pub len: usize,
+}
+
+#[repr(C)]
+#[derive(Clone, Copy, Debug, Default, PartialEq, Eq)]
+pub struct ListBody {
+    pub number: u8,
+    pub left: u16,
+    pub taken: usize,
+    pub at: usize,
+}
+
+#[repr(C)]
+#[derive(Clone, Copy, Debug, Default, PartialEq, Eq)]
+pub struct FixtureList {
+    pub number: u8,
+    pub message_type: u8,
+    pub fixtures_left: u16,
+    pub taken: usize,
+    pub fixtures_at: usize,
+}
+
+#[repr(C)]
+#[derive(Clone, Copy, Debug, Default, PartialEq, Eq)]
+pub struct LaserFeedControl {
+    pub number: u8,
+    pub feed_index: u8,
+    pub frame_rate: u8,
+    pub taken: usize,
+}
+
+#[repr(C)]
+#[derive(Clone, Copy, Debug, Default, PartialEq, Eq)]
+pub struct UniverseString {
+    pub number: u8,
+    pub universe_index: u8,
+    pub taken: usize,
+    pub string_start: usize,
+    pub string_len: usize,
+}
+
+#[repr(C)]
+#[derive(Clone, Copy, Debug, Default, PartialEq, Eq)]
+pub struct Chbk {
+    pub number: u8,
+    pub blind: u8,
+    pub universe_index: u8,
+    pub first_channel: u16,
+    pub taken: usize,
+    pub channel_levels_start: usize,
+    pub channel_levels_len: usize,
+}
+
+#[repr(C)]
+#[derive(Clone, Copy, Debug, Default, PartialEq, Eq)]
+pub struct Ptch {
+    pub number: u8,
+    pub universe: u8,
+    pub reserved: u8,
+    pub fixture_identifier: u16,
+    pub channel: u16,
+    pub channel_count: u16,
+    pub taken: usize,
+    pub fixture_make_start: usize,
+    pub fixture_make_len: usize,
+    pub fixture_name_start: usize,
+    pub fixture_name_len: usize,
+}
+
+#[repr(C)]
+#[derive(Clone, Copy, Debug, Default, PartialEq, Eq)]
+pub struct Sele {
+    pub number: u8,
+    pub complete: u8,
+    pub reserved: u8,
+    pub fixture_identifiers_left: u16,
+    pub taken: usize,
+    pub fixture_identifiers_at: usize,
+}
+
+#[repr(C)]
+#[derive(Clone, Copy, Debug, Default, PartialEq, Eq)]
+pub struct Fram {
+    pub number: u8,
+    pub frame_filter_count: u8,
+    pub frame_gobo_count: u8,
+    pub fixture_identifier: u16,
+    pub taken: usize,
+    pub frame_names_start: usize,
+    pub frame_names_len: usize,
+}
+
+#[repr(C)]
+#[derive(Clone, Copy, Debug, Default, PartialEq, Eq)]
+pub struct Ploc {
+    pub number: u8,
+    pub listening_tcp_port: u16,
+    pub taken: usize,
+    pub kind_start: usize,
+    pub kind_len: usize,
+    pub name_start: usize,
+    pub name_len: usize,
+    pub state_start: usize,
+    pub state_len: usize,
+}
+
+#[repr(C)]
+#[derive(Clone, Copy, Debug, Default, PartialEq, Eq)]
+pub struct U16Next {
+    pub number: u8,
+    pub given: u8,
+    pub left: u16,
+    pub value: u16,
+    pub at: usize,
+}
+
+#[repr(C)]
+#[derive(Clone, Copy, Debug, Default, PartialEq, Eq)]
+pub struct U32Next {
+    pub number: u8,
+    pub given: u8,
+    pub left: u16,
+    pub value: u32,
+    pub at: usize,
+}
+
+#[repr(C)]
+#[derive(Clone, Copy, Debug, Default, PartialEq, Eq)]
+pub struct ChannelLevel {
+    pub universe_index: u8,
+    pub channel: u16,
+    pub channel_level: u8,
+}
+
+#[repr(C)]
+#[derive(Clone, Copy, Debug, Default, PartialEq, Eq)]
+pub struct ChannelLevelNext {
+    pub number: u8,
+    pub given: u8,
+    pub left: u16,
+    pub value: ChannelLevel,
+    pub at: usize,
+}
+
+#[repr(C)]
+#[derive(Clone, Copy, Debug, Default, PartialEq, Eq)]
+pub struct FixtureData {
+    pub patched: u8,
+    pub universe: u8,
+    pub universe_channel: u16,
+    pub channel: u16,
+    pub position_x: u32,
+    pub position_y: u32,
+    pub position_z: u32,
+    pub angle_x: u32,
+    pub angle_y: u32,
+    pub angle_z: u32,
+}
+
+#[repr(C)]
+#[derive(Clone, Copy, Debug, Default, PartialEq, Eq)]
+pub struct FixtureNext {
+    pub number: u8,
+    pub given: u8,
+    pub is_dimmer: u8,
+    pub identifiers_left: u8,
+    pub left: u16,
+    pub channel_count: u16,
+    pub fixture_identifier: u32,
+    pub data: FixtureData,
+    pub at: usize,
+    pub manufacturer_name_start: usize,
+    pub manufacturer_name_len: usize,
+    pub fixture_name_start: usize,
+    pub fixture_name_len: usize,
+    pub mode_name_start: usize,
+    pub mode_name_len: usize,
+    pub identifiers_at: usize,
+    pub unit_start: usize,
+    pub unit_len: usize,
+    pub circuit_start: usize,
+    pub circuit_len: usize,
+    pub note_start: usize,
+    pub note_len: usize,
+}
+
+#[repr(C)]
+#[derive(Clone, Copy, Debug, Default, PartialEq, Eq)]
+pub struct IdentifierNext {
+    pub number: u8,
+    pub given: u8,
+    pub left: u8,
+    pub identifier_type: u8,
+    pub at: usize,
+    pub data_start: usize,
+    pub data_len: usize,
+}
+
+#[repr(C)]
+#[derive(Clone, Copy, Debug, Default, PartialEq, Eq)]
+pub struct Copied {
+    pub number: u8,
+    pub len: usize,
+}
+
+#[repr(C)]
+#[derive(Clone, Copy, Debug, Default, PartialEq, Eq)]
+pub struct Writer {
+    pub turn: u8,
+    pub kind: u8,
+    pub items: usize,
+    pub identifiers: usize,
+    pub at: usize,
+}
+
+#[repr(C)]
+#[derive(Clone, Copy, Debug, Default, PartialEq, Eq)]
+pub struct Written {
+    pub number: u8,
+    pub writer: Writer,
+}
+
+/// A function over slices from the one of the archive, to which a slice is a pointer and a length.
+macro_rules! function {
+    ($name:ident ($($args:tt)*) -> $answer:ty) => {
+        function!(@ $name [] [] [] ($($args)*) $answer);
+    };
+    (@ $name:ident [$($safe:tt)*] [$($raw:tt)*] [$($pass:tt)*] ($arg:ident: &mut [$t:ty] $(, $($rest:tt)*)?) $answer:ty) => {
+        function!(@ $name [$($safe)* $arg: &mut [$t],] [$($raw)* $arg: *mut $t, _: usize,]
+            [$($pass)* $arg.as_mut_ptr(), $arg.len(),] ($($($rest)*)?) $answer);
+    };
+    (@ $name:ident [$($safe:tt)*] [$($raw:tt)*] [$($pass:tt)*] ($arg:ident: &[$t:ty] $(, $($rest:tt)*)?) $answer:ty) => {
+        function!(@ $name [$($safe)* $arg: &[$t],] [$($raw)* $arg: *const $t, _: usize,]
+            [$($pass)* $arg.as_ptr(), $arg.len(),] ($($($rest)*)?) $answer);
+    };
+    (@ $name:ident [$($safe:tt)*] [$($raw:tt)*] [$($pass:tt)*] ($arg:ident: $t:ty $(, $($rest:tt)*)?) $answer:ty) => {
+        function!(@ $name [$($safe)* $arg: $t,] [$($raw)* $arg: $t,] [$($pass)* $arg,] ($($($rest)*)?) $answer);
+    };
+    (@ $name:ident [$($safe:tt)*] [$($raw:tt)*] [$($pass:tt)*] () $answer:ty) => {
+        #[allow(clippy::too_many_arguments)]
+        pub fn $name($($safe)*) -> $answer {
+            #[link(name = "bridge", kind = "static")]
+            extern "C" {
+                #[link_name = concat!("citp_", stringify!($name))]
+                fn call($($raw)*) -> $answer;
+            }
+            unsafe { call($($pass)*) }
+        }
+    };
+}
+
+macro_rules! functions {
+    ($($name:ident $args:tt -> $answer:ty;)*) => {
+        $(function!($name $args -> $answer);)*
+    };
+}
+
+functions! {
+    walk_step(stream: &[u8], at: usize) -> Step;
+    header_read(packet: &[u8]) -> Header;
+    header_write(
+        out: &mut [u8], at: usize, cookie: u32, version_major: u8, version_minor: u8, request_index: u16,
+        message_size: u32, message_part_count: u16, message_part: u16, content_type: u32
+    ) -> Put;
+    enter_show_read(body: &[u8]) -> StringBody;
+    fixture_list_read(body: &[u8]) -> FixtureList;
+    fixture_remove_read(body: &[u8]) -> ListBody;
+    laser_feed_control_read(body: &[u8]) -> LaserFeedControl;
+    capa_read(body: &[u8]) -> ListBody;
+    unam_read(body: &[u8]) -> UniverseString;
+    chbk_read(body: &[u8]) -> Chbk;
+    chls_read(body: &[u8]) -> ListBody;
+    sxus_read(body: &[u8]) -> UniverseString;
+    ptch_read(body: &[u8]) -> Ptch;
+    uptc_read(body: &[u8]) -> ListBody;
+    sptc_read(body: &[u8]) -> ListBody;
+    sele_read(body: &[u8]) -> Sele;
+    dese_read(body: &[u8]) -> ListBody;
+    sfra_read(body: &[u8]) -> ListBody;
+    fram_read(body: &[u8]) -> Fram;
+    pnam_read(body: &[u8]) -> StringBody;
+    ploc_read(body: &[u8]) -> Ploc;
+    u16_list_next(body: &[u8], at: usize, left: u16) -> U16Next;
+    u32_list_next(body: &[u8], at: usize, left: u16) -> U32Next;
+    channel_levels_next(body: &[u8], at: usize, left: u16) -> ChannelLevelNext;
+    fixtures_next(body: &[u8], at: usize, left: u16) -> FixtureNext;
+    identifiers_next(body: &[u8], at: usize, left: u8) -> IdentifierNext;
+    copy_cstring(body: &[u8], start: usize, out: &mut [u8]) -> Copied;
+    copy_ucs2(body: &[u8], start: usize, out: &mut [u16]) -> Copied;
+    enter_show_size(name: &[u16]) -> usize;
+    fixture_remove_size(fixture_identifiers: &[u32]) -> usize;
+    laser_feed_control_size() -> usize;
+    capa_size(capabilities: &[u16]) -> usize;
+    unam_size(universe_name: &[u8]) -> usize;
+    chbk_size(channel_levels: &[u8]) -> usize;
+    chls_size(channel_levels: &[ChannelLevel]) -> usize;
+    sxus_size(connection_string: &[u8]) -> usize;
+    ptch_size(fixture_make: &[u8], fixture_name: &[u8]) -> usize;
+    uptc_size(fixture_identifiers: &[u16]) -> usize;
+    sptc_size(fixture_identifiers: &[u16]) -> usize;
+    sele_size(fixture_identifiers: &[u16]) -> usize;
+    dese_size(fixture_identifiers: &[u16]) -> usize;
+    sfra_size(fixture_identifiers: &[u16]) -> usize;
+    fram_size(frame_names: &[u8]) -> usize;
+    pnam_size(name: &[u8]) -> usize;
+    ploc_size(kind: &[u8], name: &[u8], state: &[u8]) -> usize;
+    identifier_size(data: &[u8]) -> usize;
+    fixture_data_size(unit: &[u16], circuit: &[u16], note: &[u16]) -> usize;
+    laser_point_size() -> usize;
+    enter_show_write(out: &mut [u8], at: usize, name: &[u16]) -> Put;
+    fixture_remove_write(out: &mut [u8], at: usize, fixture_identifiers: &[u32]) -> Put;
+    laser_feed_control_write(out: &mut [u8], at: usize, feed_index: u8, frame_rate: u8) -> Put;
+    capa_write(out: &mut [u8], at: usize, capabilities: &[u16]) -> Put;
+    unam_write(out: &mut [u8], at: usize, universe_index: u8, universe_name: &[u8]) -> Put;
+    chbk_write(
+        out: &mut [u8], at: usize, blind: u8, universe_index: u8, first_channel: u16, channel_levels: &[u8]
+    ) -> Put;
+    chls_write(out: &mut [u8], at: usize, channel_levels: &[ChannelLevel]) -> Put;
+    sxus_write(out: &mut [u8], at: usize, universe_index: u8, connection_string: &[u8]) -> Put;
+    ptch_write(
+        out: &mut [u8], at: usize, fixture_identifier: u16, universe: u8, reserved: u8, channel: u16,
+        channel_count: u16, fixture_make: &[u8], fixture_name: &[u8]
+    ) -> Put;
+    uptc_write(out: &mut [u8], at: usize, fixture_identifiers: &[u16]) -> Put;
+    sptc_write(out: &mut [u8], at: usize, fixture_identifiers: &[u16]) -> Put;
+    sele_write(out: &mut [u8], at: usize, complete: u8, reserved: u8, fixture_identifiers: &[u16]) -> Put;
+    dese_write(out: &mut [u8], at: usize, fixture_identifiers: &[u16]) -> Put;
+    sfra_write(out: &mut [u8], at: usize, fixture_identifiers: &[u16]) -> Put;
+    fram_write(
+        out: &mut [u8], at: usize, fixture_identifier: u16, frame_filter_count: u8, frame_gobo_count: u8,
+        frame_names: &[u8]
+    ) -> Put;
+    pnam_write(out: &mut [u8], at: usize, name: &[u8]) -> Put;
+    ploc_write(out: &mut [u8], at: usize, listening_tcp_port: u16, kind: &[u8], name: &[u8], state: &[u8]) -> Put;
+    fixture_list_write_head(out: &mut [u8], at: usize, message_type: u8, fixture_count: usize) -> Put;
+    fixture_write_head(
+        out: &mut [u8], at: usize, fixture_identifier: u32, manufacturer_name: &[u16], fixture_name: &[u16],
+        mode_name: &[u16], channel_count: u16, is_dimmer: u8, identifier_count: usize
+    ) -> Put;
+    identifier_write(out: &mut [u8], at: usize, identifier_type: u8, data: &[u8]) -> Put;
+    fixture_data_write(
+        out: &mut [u8], at: usize, data: FixtureData, unit: &[u16], circuit: &[u16], note: &[u16]
+    ) -> Put;
+    laser_feed_list_write_head(out: &mut [u8], at: usize, source_key: u32, feed_count: usize) -> Put;
+    laser_feed_list_write_name(out: &mut [u8], at: usize, feed_name: &[u16]) -> Put;
+    laser_feed_frame_write_head(
+        out: &mut [u8], at: usize, source_key: u32, feed_index: u8, frame_sequence: u32, point_count: usize
+    ) -> Put;
+    laser_point_write(
+        out: &mut [u8], at: usize, x_low_byte: u8, y_low_byte: u8, xy_high_nibbles: u8, color: u16
+    ) -> Put;
+    writer_new() -> Writer;
+    writer_open(w: Writer, out: &mut [u8], kind: u8, request_index: u16, content_hint: u32) -> Written;
+    writer_close(w: Writer, out: &mut [u8]) -> Written;
+    writer_enter_show(w: Writer, out: &mut [u8], name: &[u16]) -> Written;
+    writer_fixture_remove(w: Writer, out: &mut [u8], fixture_identifiers: &[u32]) -> Written;
+    writer_laser_feed_control(w: Writer, out: &mut [u8], feed_index: u8, frame_rate: u8) -> Written;
+    writer_capa(w: Writer, out: &mut [u8], capabilities: &[u16]) -> Written;
+    writer_unam(w: Writer, out: &mut [u8], universe_index: u8, universe_name: &[u8]) -> Written;
+    writer_chbk(
+        w: Writer, out: &mut [u8], blind: u8, universe_index: u8, first_channel: u16, channel_levels: &[u8]
+    ) -> Written;
+    writer_chls(w: Writer, out: &mut [u8], channel_levels: &[ChannelLevel]) -> Written;
+    writer_sxus(w: Writer, out: &mut [u8], universe_index: u8, connection_string: &[u8]) -> Written;
+    writer_ptch(
+        w: Writer, out: &mut [u8], fixture_identifier: u16, universe: u8, reserved: u8, channel: u16,
+        channel_count: u16, fixture_make: &[u8], fixture_name: &[u8]
+    ) -> Written;
+    writer_uptc(w: Writer, out: &mut [u8], fixture_identifiers: &[u16]) -> Written;
+    writer_sptc(w: Writer, out: &mut [u8], fixture_identifiers: &[u16]) -> Written;
+    writer_sele(w: Writer, out: &mut [u8], complete: u8, reserved: u8, fixture_identifiers: &[u16]) -> Written;
+    writer_dese(w: Writer, out: &mut [u8], fixture_identifiers: &[u16]) -> Written;
+    writer_sfra(w: Writer, out: &mut [u8], fixture_identifiers: &[u16]) -> Written;
+    writer_fram(
+        w: Writer, out: &mut [u8], fixture_identifier: u16, frame_filter_count: u8, frame_gobo_count: u8,
+        frame_names: &[u8]
+    ) -> Written;
+    writer_pnam(w: Writer, out: &mut [u8], name: &[u8]) -> Written;
+    writer_ploc(w: Writer, out: &mut [u8], listening_tcp_port: u16, kind: &[u8], name: &[u8], state: &[u8]) -> Written;
+    writer_fixture_list_head(w: Writer, out: &mut [u8], message_type: u8, fixture_count: usize) -> Written;
+    writer_fixture_head(
+        w: Writer, out: &mut [u8], fixture_identifier: u32, manufacturer_name: &[u16], fixture_name: &[u16],
+        mode_name: &[u16], channel_count: u16, is_dimmer: u8, identifier_count: usize
+    ) -> Written;
+    writer_identifier(w: Writer, out: &mut [u8], identifier_type: u8, data: &[u8]) -> Written;
+    writer_fixture_data(
+        w: Writer, out: &mut [u8], data: FixtureData, unit: &[u16], circuit: &[u16], note: &[u16]
+    ) -> Written;
+    writer_laser_feed_list_head(w: Writer, out: &mut [u8], source_key: u32, feed_count: usize) -> Written;
+    writer_feed_name(w: Writer, out: &mut [u8], feed_name: &[u16]) -> Written;
+    writer_laser_feed_frame_head(
+        w: Writer, out: &mut [u8], source_key: u32, feed_index: u8, frame_sequence: u32, point_count: usize
+    ) -> Written;
+    writer_laser_point(
+        w: Writer, out: &mut [u8], x_low_byte: u8, y_low_byte: u8, xy_high_nibbles: u8, color: u16
+    ) -> Written;
+}

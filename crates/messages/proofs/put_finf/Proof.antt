@@ -1,0 +1,8 @@
+use borrow.Author.Needs.{needs}
+use Rattle.names.proofs.Messages.{put-case}
+use Rattle.finf.specs.Says.{messageKind, messageView}
+use Rattle.messages.proofs.put_finf.Statement.{statement}
+use Rattle.messages.proofs.put_finf.Tie as tie
+
+pub put-finf-spec : {M : Type 1} → statement M
+put-finf-spec = tie.close (tie.spec (λ c. search needs) (λ c κs. tt) (λ c. search needs) (λ c κs. tt) (λ c. search needs) (λ c. search (put-case messageKind messageView)) (λ c. search needs) (λ c. search (put-case messageKind messageView)))

@@ -1,0 +1,3 @@
+pub mod Told
+pub mod Calls
+pub mod Fields

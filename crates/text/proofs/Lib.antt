@@ -1,0 +1,4 @@
+pub mod Prints
+pub mod Digits
+pub mod Loops
+pub mod Texts

@@ -1,0 +1,198 @@
+/* Writes a message of every kind, walks the stream of them and reads each back: every struct of citp.h, held against the archive. */
+#include <stdio.h>
+#include <stdlib.h>
+#include <string.h>
+
+#include "citp.h"
+
+#define CHECK(x) ((x) ? (void)0 : (fprintf(stderr, "%s:%d: not so: %s\n", __FILE__, __LINE__, #x), exit(1)))
+#define TEXT(s) (const uint8_t *)(s), strlen(s)
+#define UNITS(a) (a), sizeof(a) / sizeof *(a)
+
+static uint8_t stream[4096];
+static size_t end;
+static citp_writer w;
+
+static uint8_t *out(void) { return stream + end; }
+
+static size_t room(void) { return sizeof stream - end; }
+
+static void taken(citp_written r) {
+    CHECK(r.number == 0);
+    w = r.writer;
+}
+
+static void open(uint8_t kind) { taken(citp_writer_open(w, out(), room(), kind, 7, 0xA1B2C3D4)); }
+
+static void close(void) {
+    taken(citp_writer_close(w, out(), room()));
+    end += w.at;
+}
+
+static const uint16_t units[] = {'A', 0x0100};
+static const uint16_t numbers[] = {0x0102, 0xFFFF, 3};
+static const uint32_t wide[] = {0x01020304, 0xFFFFFFFF};
+static const citp_channel_level levels[] = {{1, 0x0203, 4}, {5, 0x0607, 8}};
+static const citp_fixture_data fixture = {1, 2, 0x0304, 0x0506, 0x3F800000, 0x7FA00001, 0xFF800001, 0x80000000, 1, 2};
+
+static void write_caex(void) {
+    open(CITP_ENTER_SHOW), taken(citp_writer_enter_show(w, out(), room(), UNITS(units))), close();
+    open(CITP_FIXTURE_LIST);
+    CHECK(citp_writer_fixture_list_head(w, out(), room(), 3, 1).number == 9);
+    taken(citp_writer_fixture_list_head(w, out(), room(), 2, 1));
+    taken(citp_writer_fixture_head(w, out(), room(), 0x01020304, UNITS(units), units, 1, NULL, 0, 0x0506, 7, 1));
+    CHECK(citp_writer_identifier(w, out(), room(), 6, TEXT("")).number == 10);
+    taken(citp_writer_identifier(w, out(), room(), 5, TEXT("xyz")));
+    taken(citp_writer_fixture_data(w, out(), room(), fixture, NULL, 0, units, 1, UNITS(units)));
+    close();
+    open(CITP_FIXTURE_REMOVE), taken(citp_writer_fixture_remove(w, out(), room(), UNITS(wide))), close();
+    open(CITP_LASER_FEED_CONTROL), taken(citp_writer_laser_feed_control(w, out(), room(), 1, 2)), close();
+}
+
+static void write_sdmx(void) {
+    open(CITP_CAPA), taken(citp_writer_capa(w, out(), room(), UNITS(numbers))), close();
+    open(CITP_UNAM), taken(citp_writer_unam(w, out(), room(), 3, TEXT("ab"))), close();
+    open(CITP_CHBK), taken(citp_writer_chbk(w, out(), room(), 1, 2, 0x0304, TEXT("xyz"))), close();
+    open(CITP_CHLS), taken(citp_writer_chls(w, out(), room(), UNITS(levels))), close();
+    open(CITP_SXUS), taken(citp_writer_sxus(w, out(), room(), 4, TEXT("c"))), close();
+}
+
+static void write_others(void) {
+    open(CITP_PTCH), taken(citp_writer_ptch(w, out(), room(), 0x0102, 3, 4, 0x0506, 0x0708, TEXT("m"), TEXT("nn"))), close();
+    open(CITP_UPTC), taken(citp_writer_uptc(w, out(), room(), UNITS(numbers))), close();
+    open(CITP_SPTC), taken(citp_writer_sptc(w, out(), room(), NULL, 0)), close();
+    open(CITP_SELE), taken(citp_writer_sele(w, out(), room(), 1, 2, UNITS(numbers))), close();
+    open(CITP_DESE), taken(citp_writer_dese(w, out(), room(), UNITS(numbers))), close();
+    open(CITP_SFRA), taken(citp_writer_sfra(w, out(), room(), UNITS(numbers))), close();
+    open(CITP_FRAM), taken(citp_writer_fram(w, out(), room(), 0x0102, 3, 4, TEXT("f\ng"))), close();
+    open(CITP_PNAM), taken(citp_writer_pnam(w, out(), room(), TEXT("p"))), close();
+    open(CITP_PLOC), taken(citp_writer_ploc(w, out(), room(), 0x0102, TEXT("k"), TEXT("nn"), TEXT("sss"))), close();
+}
+
+/* ---- reading; a message's body, and how many bytes it takes */
+
+static const uint8_t *body;
+static size_t len;
+
+static void is_list(citp_list_body r, size_t taken_bytes, uint16_t left) {
+    CHECK(r.number == 0 && r.taken == taken_bytes && r.left == left && r.at == 2);
+}
+
+static void is_numbers(citp_list_body r) {
+    is_list(r, 8, 3);
+    citp_u16_next n = citp_u16_list_next(body, len, r.at, r.left);
+    CHECK(n.number == 0 && n.given == 1 && n.value == 0x0102 && n.at == 4 && n.left == 2);
+}
+
+static void read_fixture(citp_fixture_list r) {
+    CHECK(r.number == 0 && r.taken == len && r.message_type == 2 && r.fixtures_at == 3 && r.fixtures_left == 1);
+    citp_fixture_next f = citp_fixtures_next(body, len, r.fixtures_at, r.fixtures_left);
+    CHECK(f.number == 0 && f.given == 1 && f.at == len && f.left == 0 && f.fixture_identifier == 0x01020304);
+    CHECK(f.manufacturer_name_start == 7 && f.manufacturer_name_len == 2 && f.fixture_name_start == 13 && f.fixture_name_len == 1);
+    CHECK(f.mode_name_start == 17 && f.mode_name_len == 0 && f.channel_count == 0x0506 && f.is_dimmer == 7);
+    CHECK(f.identifiers_at == 23 && f.identifiers_left == 1 && memcmp(&f.data, &fixture, sizeof fixture) == 0);
+    CHECK(f.unit_start == 33 && f.unit_len == 0 && f.circuit_start == 37 && f.circuit_len == 1 && f.note_start == 41 && f.note_len == 2);
+    citp_identifier_next i = citp_identifiers_next(body, len, f.identifiers_at, f.identifiers_left);
+    CHECK(i.number == 0 && i.given == 1 && i.identifier_type == 5 && i.data_start == 26 && i.data_len == 3 && i.at == 29 && i.left == 0);
+    CHECK(citp_identifiers_next(body, len, i.at, i.left).given == 0);
+}
+
+static void read_caex(uint8_t kind) {
+    if (kind == CITP_ENTER_SHOW) {
+        citp_string_body r = citp_enter_show_read(body, len);
+        uint16_t name[3] = {1, 1, 1};
+        citp_copied c = citp_copy_ucs2(body, len, r.start, name, 3);
+        CHECK(r.number == 0 && r.taken == 6 && r.start == 0 && r.len == 2);
+        CHECK(c.number == 0 && c.len == 2 && memcmp(name, units, sizeof units) == 0 && name[2] == 1);
+    } else if (kind == CITP_FIXTURE_LIST) {
+        read_fixture(citp_fixture_list_read(body, len));
+    } else if (kind == CITP_FIXTURE_REMOVE) {
+        is_list(citp_fixture_remove_read(body, len), 10, 2);
+        citp_u32_next n = citp_u32_list_next(body, len, 2, 2);
+        CHECK(n.number == 0 && n.given == 1 && n.value == 0x01020304 && n.at == 6 && n.left == 1);
+    } else {
+        citp_laser_feed_control r = citp_laser_feed_control_read(body, len);
+        CHECK(r.number == 0 && r.taken == 2 && r.feed_index == 1 && r.frame_rate == 2);
+    }
+}
+
+static void read_sdmx(uint8_t kind) {
+    if (kind == CITP_CAPA) {
+        is_numbers(citp_capa_read(body, len));
+    } else if (kind == CITP_CHLS) {
+        is_list(citp_chls_read(body, len), 10, 2);
+        citp_channel_level_next n = citp_channel_levels_next(body, len, 2, 2);
+        CHECK(n.number == 0 && n.given == 1 && n.at == 6 && n.left == 1);
+        CHECK(n.value.universe_index == 1 && n.value.channel == 0x0203 && n.value.channel_level == 4);
+    } else if (kind == CITP_CHBK) {
+        citp_chbk r = citp_chbk_read(body, len);
+        CHECK(r.number == 0 && r.taken == 9 && r.blind == 1 && r.universe_index == 2 && r.first_channel == 0x0304);
+        CHECK(r.channel_levels_start == 6 && r.channel_levels_len == 3);
+    } else {
+        citp_universe_string r = kind == CITP_UNAM ? citp_unam_read(body, len) : citp_sxus_read(body, len);
+        uint8_t name[2];
+        CHECK(r.number == 0 && r.taken == len && r.universe_index == (kind == CITP_UNAM ? 3 : 4) && r.string_start == 1);
+        CHECK(citp_copy_cstring(body, len, r.string_start, name, 2).len == r.string_len && name[0] == body[1]);
+        CHECK(citp_unam_read(body, 1).number == 8 && citp_unam_read(NULL, 0).number == 7);
+    }
+}
+
+static void read_others(uint8_t kind) {
+    if (kind == CITP_PTCH) {
+        citp_ptch r = citp_ptch_read(body, len);
+        CHECK(r.number == 0 && r.taken == 13 && r.fixture_identifier == 0x0102 && r.universe == 3 && r.reserved == 4);
+        CHECK(r.channel == 0x0506 && r.channel_count == 0x0708 && r.fixture_make_start == 8 && r.fixture_make_len == 1);
+        CHECK(r.fixture_name_start == 10 && r.fixture_name_len == 2);
+    } else if (kind == CITP_SELE) {
+        citp_sele r = citp_sele_read(body, len);
+        CHECK(r.number == 0 && r.taken == 10 && r.complete == 1 && r.reserved == 2);
+        CHECK(r.fixture_identifiers_at == 4 && r.fixture_identifiers_left == 3);
+    } else if (kind == CITP_FRAM) {
+        citp_fram r = citp_fram_read(body, len);
+        CHECK(r.number == 0 && r.taken == 8 && r.fixture_identifier == 0x0102 && r.frame_filter_count == 3);
+        CHECK(r.frame_gobo_count == 4 && r.frame_names_start == 4 && r.frame_names_len == 3);
+    } else if (kind == CITP_PNAM) {
+        citp_string_body r = citp_pnam_read(body, len);
+        CHECK(r.number == 0 && r.taken == 2 && r.start == 0 && r.len == 1);
+    } else if (kind == CITP_PLOC) {
+        citp_ploc r = citp_ploc_read(body, len);
+        CHECK(r.number == 0 && r.taken == 11 && r.listening_tcp_port == 0x0102 && r.kind_start == 2 && r.kind_len == 1);
+        CHECK(r.name_start == 4 && r.name_len == 2 && r.state_start == 7 && r.state_len == 3);
+    } else if (kind == CITP_SPTC) {
+        is_list(citp_sptc_read(body, len), 2, 0);
+    } else {
+        is_numbers(kind == CITP_UPTC ? citp_uptc_read(body, len) : kind == CITP_DESE ? citp_dese_read(body, len) : citp_sfra_read(body, len));
+    }
+}
+
+static void read_packet(citp_step s, uint8_t kind) {
+    CHECK(s.report == CITP_MESSAGE && s.number == 0 && s.kind == kind && s.request_index == 7 && s.added == 0);
+    CHECK(s.next == s.offset + s.size && s.body_start + s.body_len == s.next);
+    CHECK(s.content_hint == (CITP_PTCH <= kind && kind <= CITP_SPTC ? 0xA1B2C3D4 : 0));
+    citp_header h = citp_header_read(stream + s.offset, s.size);
+    CHECK(h.number == 0 && h.taken == 20 && h.cookie == 0x50544943 && h.version_major == 1 && h.version_minor == 0);
+    CHECK(h.request_index == 7 && h.message_size == s.size && h.message_part_count == 1 && h.message_part == 0);
+    uint8_t again[20];
+    citp_put p = citp_header_write(again, 20, 0, h.cookie, h.version_major, h.version_minor, h.request_index, h.message_size,
+                                   h.message_part_count, h.message_part, h.content_type);
+    CHECK(p.number == 0 && p.at == 20 && memcmp(again, stream + s.offset, 20) == 0);
+    body = stream + s.body_start;
+    len = s.body_len;
+    kind <= CITP_LASER_FEED_CONTROL ? read_caex(kind) : kind <= CITP_SXUS ? read_sdmx(kind) : read_others(kind);
+}
+
+int main(void) {
+    w = citp_writer_new();
+    write_caex(), write_sdmx(), write_others();
+    citp_step s = citp_walk_step(stream, end, 0);
+    for (uint8_t kind = 0; kind <= CITP_PLOC; kind++) {
+        read_packet(s, kind);
+        s = citp_walk_step(stream, end, s.next);
+    }
+    CHECK(s.report == CITP_END && s.number == 0 && s.offset == end && s.next == end);
+    citp_writer none = {9, 99, 1, 2, 3};
+    citp_written r = citp_writer_close(none, stream, sizeof stream);
+    CHECK(r.number == 14 && r.writer.turn == 9 && r.writer.kind == 99 && r.writer.items == 1 && r.writer.identifiers == 2 && r.writer.at == 3);
+    printf("18 kinds written, walked and read back\n");
+    return 0;
+}

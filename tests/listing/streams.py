@@ -1,0 +1,151 @@
+#!/usr/bin/env python3
+"""streams.py write: the streams of this folder (.in) and their listings (.out), by reference.py.
+streams.py compare PROGRAM N: lists long streams, and N random and damaged ones, by PROGRAM and by reference.py; they must agree."""
+import pathlib
+import random
+import struct
+import subprocess
+import sys
+
+from reference import listing
+
+
+def packet(layer, type_, body=b'', hint=7, request_index=0, count=1, part=0, minor=0, size=None):
+    """A packet; its content type is a number or four letters, or none."""
+    type_ = type_.to_bytes(4, 'little') if isinstance(type_, int) else type_
+    rest = type_ + (struct.pack('<I', hint) if layer == b'FPTC' and type_ else b'') + body
+    size = 20 + len(rest) if size is None else size
+    return b'CITP' + struct.pack('<BBHIHH', 1, minor, request_index, size, count, part) + layer + rest
+
+
+def u16s(*numbers):
+    return struct.pack('<H%dH' % len(numbers), len(numbers), *numbers)
+
+
+def ucs2(text):
+    return text.encode('utf-16-le') + b'\0\0'
+
+
+def identifier(type_, data):
+    return struct.pack('<BH', type_, len(data)) + data
+
+
+def fixture(number, names, identifiers, data):
+    """Its data: six numbers of the patch and the channel, three strings, six floats by their bits."""
+    patched, universe, universe_channel, unit, channel, circuit, note, *floats = data
+    return (struct.pack('<I', number) + b''.join(map(ucs2, names)) + struct.pack('<HBB', 16, 1, len(identifiers)) + b''.join(identifiers)
+            + struct.pack('<BBH', patched, universe, universe_channel) + ucs2(unit) + struct.pack('<H', channel) + ucs2(circuit) + ucs2(note)
+            + struct.pack('<6I', *floats))
+
+
+FIXTURES = [
+    fixture(1, ('Maker', 'Fresnel 1 kW', '1 channel'), [identifier(0, b'\x12\x34'), identifier(2, bytes(range(16))), identifier(5, b'')],
+            (1, 0, 0, '1', 101, 'A1', 'gel L201', 0x3F800000, 0xC0200000, 0, 0x80000000, 0x42B40000, 0x7F800000)),
+    fixture(0xFFFFFFFF, ('', 'Scheinwerfer Größe \\ "3"', ''), [], (0, 255, 65535, '', 65535, 'é', '\n\x7f~', 0x7FC00000, 0x7F800001, 0xFFFFFFFF, 1, 0, 0xFF800000)),
+]
+
+MESSAGES = [
+    packet(b'PINF', b'PNam', b'desk\0'),
+    packet(b'PINF', b'PLoc', struct.pack('<H', 4809) + b'LightingConsole\0desk\0Running\0', request_index=65535),
+    packet(b'SDMX', b'Capa', u16s(1, 2, 104)),
+    packet(b'SDMX', b'UNam', b'\x03' + bytes(range(1, 256)) + b'\0'),
+    packet(b'SDMX', b'ChBk', b'\x01\x02' + struct.pack('<H', 511) + struct.pack('<H', 4) + b'\x00\x09\x0a\xff'),
+    packet(b'SDMX', b'ChLs', struct.pack('<HBHBBHB', 2, 0, 511, 255, 9, 10, 99)),
+    packet(b'SDMX', b'SXUS', b'\x00ArtNet/0/0/1\0'),
+    packet(b'FPTC', b'Ptch', struct.pack('<HBBHH', 1, 2, 3, 4, 512) + b'Maker\0\0', hint=0xFFFFFFFF),
+    packet(b'FPTC', b'UPtc', u16s(), hint=0),
+    packet(b'FPTC', b'SPtc', u16s(65535, 0)),
+    packet(b'FSEL', b'Sele', b'\x01\x00' + u16s(100, 1000, 10000)),
+    packet(b'FSEL', b'DeSe', u16s(9)),
+    packet(b'FINF', b'SFra', u16s(1, 2, 3)),
+    packet(b'FINF', b'Fram', struct.pack('<HBB', 7, 2, 1) + b'L201\nL202\nStar\0'),
+    packet(b'CAEX', 0x00020100, ucs2('Gala é')),
+    packet(b'CAEX', 0x00020201, struct.pack('<BH', 2, 2) + b''.join(FIXTURES)),
+    packet(b'CAEX', 0x00020201, b'\0\0\0'),
+    packet(b'CAEX', 0x00020203, struct.pack('<H2I', 2, 0, 4294967295)),
+    packet(b'CAEX', 0x00030102, b'\x05\x19'),
+]
+
+OTHERS = [
+    packet(b'SDMX', b'UNam', b'\x03A\0added', minor=9),  # added bytes
+    packet(b'MSEX', b'CInf', b'\1\2'),  # an unknown layer
+    packet(b'\x00\xff\xfe\x0a', b''),
+    packet(b'SDMX', b'EnId', b'x\0'),  # an unknown kind
+    packet(b'CAEX', 0x00030200, b'\0'),
+    packet(b'CAEX', 0x00020201, b'?', count=3, part=1),  # fragments
+    packet(b'NONE', b'', count=0, part=65535),
+    packet(b'SDMX', b'', b'abc'),  # 6
+    packet(b'FPTC', b'', b'Ptch' + b'abc'),
+    packet(b'SDMX', b'Capa', b'\1\0e'),  # 7
+    packet(b'SDMX', b'UNam', b'\3A'),  # 8
+    packet(b'CAEX', 0x00020100, b'A\0\0'),
+    packet(b'CAEX', 0x00020201, b'\3\0\0'),  # 9
+    packet(b'CAEX', 0x00020201, b'\0\1\0' + fixture(1, ('', '', ''), [identifier(6, b'')], (0, 0, 0, '', 0, '', '', 0, 0, 0, 0, 0, 0))),  # 10
+]
+
+ALL = b''.join(MESSAGES + OTHERS)
+SHORT = MESSAGES[2]
+
+STREAMS = {
+    'example': bytes.fromhex('434954500100000 01B0000000100000053444D58554E616D034100'.replace(' ', '')),
+    'empty': b'',
+    'kinds': ALL + SHORT[:-1],
+    'end_0': SHORT + SHORT,
+    'end_1': SHORT + bytes(19),
+    'end_2': SHORT + b'CITp' + SHORT[4:],
+    'end_3': SHORT + b'CITP\2' + SHORT[5:],
+    'end_4_small': packet(b'SDMX', b'', size=19),
+    'end_4_large': packet(b'SDMX', b'', size=16777217),
+    'end_5': SHORT + packet(b'SDMX', b'', size=16777216),
+}
+
+
+def long_streams():
+    """Streams of 65,536 bytes and more, of which no more are read."""
+    yield packet(b'SDMX', b'ChBk', bytes(4) + struct.pack('<H', 65506) + b'\xff' * 65506)
+    yield packet(b'SDMX', b'UNam', b'\x01' + b'\xff' * (65536 - 26) + b'\0')
+    yield packet(b'FPTC', b'UPtc', u16s(*[65535] * 32753))
+    yield packet(b'MSEX', b'') * 4000
+    yield (ALL * 40)[:65536]
+
+
+def damaged(rng):
+    """A few packets, with bytes changed, cut out or put in; or bytes that look like one."""
+    s = bytearray(b''.join(rng.choice(MESSAGES + OTHERS) for _ in range(rng.randrange(1, 6))))
+    for _ in range(rng.choice((0, 1, 1, 2, 8))):
+        i = rng.randrange(len(s))
+        change = rng.randrange(4)
+        if change == 0:
+            s[i] = rng.choice((0, 1, 2, 255, rng.randrange(256)))
+        elif change == 1:
+            s[rng.randrange(20, max(21, len(s))) % len(s)] ^= 1 << rng.randrange(8)
+        elif change == 2:
+            del s[i:i + rng.randrange(1, 9)]
+            s = s or bytearray(b'C')
+        else:
+            s[i:i] = rng.randbytes(rng.randrange(1, 9))
+    if rng.random() < 0.5 and len(s) >= 20:  # a size field that fits
+        s[8:12] = len(s).to_bytes(4, 'little')
+    return bytes(s)
+
+
+def write():
+    for name, stream in STREAMS.items():
+        pathlib.Path(name + '.in').write_bytes(stream)
+        pathlib.Path(name + '.out').write_text(listing(stream), encoding='ascii')
+
+
+def compare(program, n):
+    rng = random.Random(6)
+    count = 0
+    for stream in [*long_streams(), *(damaged(rng) for _ in range(n))]:
+        got = subprocess.run([program], input=stream, stdout=subprocess.PIPE, check=True).stdout
+        if got != listing(stream[:65536]).encode('ascii'):
+            pathlib.Path('differs.in').write_bytes(stream)
+            sys.exit('a listing differs: differs.in')
+        count += 1
+    print('%d long, random and damaged streams: alike' % count)
+
+
+if __name__ == '__main__':
+    write() if sys.argv[1:] == ['write'] else compare(sys.argv[2], int(sys.argv[3]))
