@@ -1,7 +1,7 @@
 #!/usr/bin/env python3
 """reference.py < STREAM: the listing of a stream, written from the listing's description alone and not from the program.
 
-The expected listings of this folder are its output (`run --write`), so program and expectation have no code in common.
+The expected listings of this folder are its output (`streams.py write`), so program and expectation have no code in common.
 """
 import struct
 import sys

@@ -1,5 +1,5 @@
 #!/usr/bin/env python3
-"""streams.py write: the streams of this folder (.in) and their listings (.out), by reference.py.
+"""streams.py write: the streams of this folder (.in) and their listings (.out), by reference.py; `kinds` is the program's stored run too.
 streams.py compare PROGRAM N: lists long streams, and N random and damaged ones, by PROGRAM and by reference.py; they must agree."""
 import pathlib
 import random
@@ -7,6 +7,7 @@ import struct
 import subprocess
 import sys
 
+sys.dont_write_bytecode = True
 from reference import listing
 
 
@@ -87,7 +88,7 @@ ALL = b''.join(MESSAGES + OTHERS)
 SHORT = MESSAGES[2]
 
 STREAMS = {
-    'example': bytes.fromhex('434954500100000 01B0000000100000053444D58554E616D034100'.replace(' ', '')),
+    'example': bytes.fromhex('43495450 01000000 1B000000 01000000 53444D58 554E616D 034100'),
     'empty': b'',
     'kinds': ALL + SHORT[:-1],
     'end_0': SHORT + SHORT,
@@ -106,7 +107,7 @@ def long_streams():
     yield packet(b'SDMX', b'UNam', b'\x01' + b'\xff' * (65536 - 26) + b'\0')
     yield packet(b'FPTC', b'UPtc', u16s(*[65535] * 32753))
     yield packet(b'MSEX', b'') * 4000
-    yield (ALL * 40)[:65536]
+    yield (ALL * 42)[:65536]
 
 
 def damaged(rng):
@@ -133,6 +134,9 @@ def write():
     for name, stream in STREAMS.items():
         pathlib.Path(name + '.in').write_bytes(stream)
         pathlib.Path(name + '.out').write_text(listing(stream), encoding='ascii')
+    program = pathlib.Path('../../crates/citp_list')
+    (program / 'stdin').write_bytes(STREAMS['kinds'])
+    (program / 'stdout').write_text(listing(STREAMS['kinds']), encoding='ascii')
 
 
 def compare(program, n):

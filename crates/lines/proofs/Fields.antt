@@ -14,24 +14,24 @@ use Rattle.text.specs.Text.{hex, escaped, hexBlock, line}
 use Rattle.lines.specs.Lines.{Name, Listed, decimal, bits, type, bytes, units, each, block, digits, _and_, decimalLine, rangeOf, lines, itemLines, Lists}
 
 module _ {name : Name} {s o o′ : List ℕ} {p r : ℕ} where
-  pub lists-decimal : {from : ℕ} → {w n : ℕ} → Prints from (line name (text.decimal n)) p o r o′ → Lists from (decimal {w = w} name) s n p o r o′
+  pub lists-decimal : {from : ℕ} {w n : ℕ} → Prints from (line name (text.decimal n)) p o r o′ → Lists from (decimal {w = w} name) s n p o r o′
   unfolding lines
   lists-decimal a = record { puts = a }
 
-  pub lists-bits : {from : ℕ} → {n : ℕ} → Prints from (line name (hex 8 n)) p o r o′ → Lists from (bits name) s n p o r o′
+  pub lists-bits : {from : ℕ} {n : ℕ} → Prints from (line name (hex 8 n)) p o r o′ → Lists from (bits name) s n p o r o′
   unfolding lines
   lists-bits a = record { puts = a }
 
-  pub lists-type : {from : ℕ} → {n k c d : ℕ} → d ≡ c → Prints from (line name (text.decimal d)) p o r o′ → Lists from (type {n = n} {r = k} name) s c p o r o′
+  pub lists-type : {from : ℕ} {n k c d : ℕ} → d ≡ c → Prints from (line name (text.decimal d)) p o r o′ → Lists from (type {n = n} {r = k} name) s c p o r o′
   unfolding lines
   lists-type e a = record { puts = rw e at a }
 
-  pub lists-bytes : {from : ℕ} → {x : ℕ × ℕ} {t : List ℕ} → t ≡ rangeOf s x → Prints from (line name (escaped t)) p o r o′ → Lists from (bytes name) s x p o r o′
+  pub lists-bytes : {from : ℕ} {x : ℕ × ℕ} {t : List ℕ} → t ≡ rangeOf s x → Prints from (line name (escaped t)) p o r o′ → Lists from (bytes name) s x p o r o′
   unfolding lines
   lists-bytes e a = record { puts = rw e at a }
 
   -- a body's length is enough to reach its end
-  pub lists-units : {from : ℕ} → {x : ℕ × ℕ} {t : List ℕ} → t ≡ take (length s) (drop (x .0) s) → Prints from (line name (escaped (unitsOf (x .1) t))) p o r o′
+  pub lists-units : {from : ℕ} {x : ℕ × ℕ} {t : List ℕ} → t ≡ take (length s) (drop (x .0) s) → Prints from (line name (escaped (unitsOf (x .1) t))) p o r o′
       → Lists from (units name) s x p o r o′
   unfolding lines
   lists-units {x = x} e a =
@@ -39,35 +39,35 @@ module _ {name : Name} {s o o′ : List ℕ} {p r : ℕ} where
       record { puts = rw (e, take-all (length s) (drop (x .0) s) h) at a }
 
 module _ {count : Name} {s o o₁ o₂ : List ℕ} {p q r : ℕ} where
-  pub lists-each : {from : ℕ} → {w at left : ℕ} {f : Format} {l : Listed f} → Prints from (line count (text.decimal left)) p o q o₁ → Prints from (itemLines l s at left) q o₁ r o₂
+  pub lists-each : {from : ℕ} {w at left : ℕ} {f : Format} {l : Listed f} → Prints from (line count (text.decimal left)) p o q o₁ → Prints from (itemLines l s at left) q o₁ r o₂
       → Lists from (each {w = w} count l) s (at, left) p o r o₂
   unfolding lines itemLines
   lists-each a b = record { puts = put-then a b }
 
-  pub lists-block : {from : ℕ} → {w : ℕ} {name : Name} {x : ℕ × ℕ} {t : List ℕ} → t ≡ rangeOf s x → Prints from (line count (text.decimal (x .1))) p o q o₁
+  pub lists-block : {from : ℕ} {w : ℕ} {name : Name} {x : ℕ × ℕ} {t : List ℕ} → t ≡ rangeOf s x → Prints from (line count (text.decimal (x .1))) p o q o₁
       → Prints from (concatMap (decimalLine name) t) q o₁ r o₂ → Lists from (block {w = w} count name) s x p o r o₂
   unfolding lines
   lists-block e a b = record { puts = put-then a (rw e at b) }
 
-  pub lists-digits : {from : ℕ} → {w : ℕ} {name : Name} {x : ℕ × ℕ} {t : List ℕ} → t ≡ rangeOf s x → Prints from (line count (text.decimal (x .1))) p o q o₁
+  pub lists-digits : {from : ℕ} {w : ℕ} {name : Name} {x : ℕ × ℕ} {t : List ℕ} → t ≡ rangeOf s x → Prints from (line count (text.decimal (x .1))) p o q o₁
       → Prints from (line name (hexBlock t)) q o₁ r o₂ → Lists from (digits {w = w} count name) s x p o r o₂
   unfolding lines
   lists-digits e a b = record { puts = put-then a (rw e at b) }
 
-pub lists-and : {from : ℕ} → {f g : Format} {a : Listed f} {b : Listed g} {v : View f} {w : View g} {s o o₁ o₂ : List ℕ} {p q r : ℕ}
+pub lists-and : {from : ℕ} {f g : Format} {a : Listed f} {b : Listed g} {v : View f} {w : View g} {s o o₁ o₂ : List ℕ} {p q r : ℕ}
     → Lists from a s v p o q o₁ → Lists from b s w q o₁ r o₂ → Lists from (a and b) s (v, w) p o r o₂
 unfolding lines
 lists-and a b = record { puts = put-then (a .puts) (b .puts) }
 
 -- the same with a line in front, whose write says where it stops
 module _ {name : Name} {g : Format} {b : Listed g} {w : View g} {s o o₁ o₂ : List ℕ} {p q r : ℕ} where
-  pub lists-decimal-and : {from : ℕ} → {k n : ℕ} → Prints from (line name (text.decimal n)) p o q o₁ → Lists from b s w q o₁ r o₂ → Lists from (decimal {w = k} name and b) s (n, w) p o r o₂
+  pub lists-decimal-and : {from : ℕ} {k n : ℕ} → Prints from (line name (text.decimal n)) p o q o₁ → Lists from b s w q o₁ r o₂ → Lists from (decimal {w = k} name and b) s (n, w) p o r o₂
   lists-decimal-and a b = lists-and (lists-decimal a) b
 
-  pub lists-bits-and : {from : ℕ} → {n : ℕ} → Prints from (line name (hex 8 n)) p o q o₁ → Lists from b s w q o₁ r o₂ → Lists from (bits name and b) s (n, w) p o r o₂
+  pub lists-bits-and : {from : ℕ} {n : ℕ} → Prints from (line name (hex 8 n)) p o q o₁ → Lists from b s w q o₁ r o₂ → Lists from (bits name and b) s (n, w) p o r o₂
   lists-bits-and a b = lists-and (lists-bits a) b
 
-  pub lists-type-and : {from : ℕ} → {n k c d : ℕ} → d ≡ c → Prints from (line name (text.decimal d)) p o q o₁ → Lists from b s w q o₁ r o₂
+  pub lists-type-and : {from : ℕ} {n k c d : ℕ} → d ≡ c → Prints from (line name (text.decimal d)) p o q o₁ → Lists from b s w q o₁ r o₂
       → Lists from (type {n = n} {r = k} name and b) s (c, w) p o r o₂
   lists-type-and e a b = lists-and (lists-type e a) b
 

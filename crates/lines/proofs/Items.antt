@@ -34,11 +34,11 @@ module _ {f : Format} (l : Listed f) (s : List ℕ) (at : ℕ) where
 -- the rules of the loop, over any answer R of a step: what it says, its cases; L is what is left of the list
 pub record Itemized (f : Format) {R A L : Type 0} (says : R → Next (View f)) (next : A → L → R) (end : R) (refused : ℕ → R) (at left : L → ℕ) (value : A → View f) : Type 0 where
   pub less : (s : List ℕ) (r : R) (a : A) (x y : L) → says r ≡ stepped f s (at x) (left x) → r ≡ next a y → left y < left x
-  pub goes-on : {from : ℕ} → (l : Listed f) (s : List ℕ) (r : R) (a : A) (x y : L) {whole o o′ o₀ : List ℕ} {p q q′ : ℕ} → says r ≡ stepped f s (at x) (left x) → r ≡ next a y
+  pub goes-on : {from : ℕ} (l : Listed f) (s : List ℕ) (r : R) (a : A) (x y : L) {whole o o′ o₀ : List ℕ} {p q q′ : ℕ} → says r ≡ stepped f s (at x) (left x) → r ≡ next a y
       → Onto from (itemLines l s (at x) (left x)) q o whole p o₀ → Lists from l s (value a) q o q′ o′ → Onto from (itemLines l s (at y) (left y)) q′ o′ whole p o₀
-  pub ends : {from : ℕ} → (l : Listed f) (s : List ℕ) (r : R) (x : L) {whole o o₀ : List ℕ} {p q : ℕ} → says r ≡ stepped f s (at x) (left x) → r ≡ end
+  pub ends : {from : ℕ} (l : Listed f) (s : List ℕ) (r : R) (x : L) {whole o o₀ : List ℕ} {p q : ℕ} → says r ≡ stepped f s (at x) (left x) → r ≡ end
       → Onto from (itemLines l s (at x) (left x)) q o whole p o₀ → Prints from whole p o₀ q o
-  pub stops : {from : ℕ} → (l : Listed f) (s : List ℕ) (r : R) (k : ℕ) (x : L) {whole o o₀ : List ℕ} {p q : ℕ} → says r ≡ stepped f s (at x) (left x) → r ≡ refused k
+  pub stops : {from : ℕ} (l : Listed f) (s : List ℕ) (r : R) (k : ℕ) (x : L) {whole o o₀ : List ℕ} {p q : ℕ} → says r ≡ stepped f s (at x) (left x) → r ≡ refused k
       → Onto from (itemLines l s (at x) (left x)) q o whole p o₀ → Prints from whole p o₀ q o
 
 pub itemized : (f : Format) {R A L : Type 0} (says : R → Next (View f)) (next : A → L → R) (end : R) (refused : ℕ → R) (at left : L → ℕ) (value : A → View f)

@@ -77,7 +77,7 @@ whole : (s : List ℕ) → listing s ≡ restLines s 0 (walkFrom stepAt (suc (le
 unfolding listing walk
 whole s = let e : suc (length s) - 0 ≡ suc (length s) = omega arith in rw (e, zero-add) refl
 
-pub walking-none : {from : ℕ} → {s o : List ℕ} {p : ℕ} → Walking from s 0 0 p o p o
+pub walking-none : {from : ℕ} {s o : List ℕ} {p : ℕ} → Walking from s 0 0 p o p o
 walking-none {s = s} = record { counted = omega arith; within = omega arith; onto = rw (← whole s) onto-none }
 
 -- one step of the walk, while there is fuel
@@ -87,11 +87,11 @@ unfolding walkFrom
 from s n at h e = let f : suc (length s) - n ≡ suc (suc (length s) - (n + 1)) = omega arith in rw (f, e) refl
 
 module _ {s : List ℕ} {n : ℕ} {x : declared.Step} {c : Cursor} {o o₀ : List ℕ} {p q : ℕ} where
-  pub walking-less : {from : ℕ} → {y : PacketReport} {d : Cursor} → stepSays x ≡ stepAt s (c .at) → x ≡ step.Packet y d → Walking from s n (c .at) q o p o₀
+  pub walking-less : {from : ℕ} {y : PacketReport} {d : Cursor} → stepSays x ≡ stepAt s (c .at) → x ≡ step.Packet y d → Walking from s n (c .at) q o p o₀
       → length s - d .at < length s - c .at
   walking-less t i w = let m = moved s (c .at) (met stepSays t i) in omega (arith, m .0, m .1)
 
-  pub walking-more : {from : ℕ} → {y : PacketReport} {d : Cursor} {o′ : List ℕ} {q′ : ℕ} → stepSays x ≡ stepAt s (c .at) → x ≡ step.Packet y d → Walking from s n (c .at) q o p o₀
+  pub walking-more : {from : ℕ} {y : PacketReport} {d : Cursor} {o′ : List ℕ} {q′ : ℕ} → stepSays x ≡ stepAt s (c .at) → x ≡ step.Packet y d → Walking from s n (c .at) q o p o₀
       → Prints from (reportLines s (packetSays y)) q o q′ o′ → Walking from s (n + 1) (d .at) q′ o′ p o₀
   unfolding concatMap
   walking-more {y = y} {d = d} t i w a =
@@ -106,7 +106,7 @@ module _ {s : List ℕ} {n : ℕ} {x : declared.Step} {c : Cursor} {o o₀ : Lis
         onto = onto-more (rw (from s n (c .at) k e, f, append-assoc) refl) (w .onto) a;
       }
 
-  pub walking-end : {from : ℕ} → {number offset : ℕ} {o′ : List ℕ} {q′ : ℕ} → stepSays x ≡ stepAt s (c .at) → x ≡ step.End number offset → Walking from s n (c .at) q o p o₀
+  pub walking-end : {from : ℕ} {number offset : ℕ} {o′ : List ℕ} {q′ : ℕ} → stepSays x ≡ stepAt s (c .at) → x ≡ step.End number offset → Walking from s n (c .at) q o p o₀
       → Prints from (endLines n number) q o q′ o′ → Prints from (listing s) p o₀ q′ o′
   unfolding concatMap
   walking-end {number = number} {offset = offset} t i w a =
@@ -114,7 +114,7 @@ module _ {s : List ℕ} {n : ℕ} {x : declared.Step} {c : Cursor} {o o₀ : Lis
       let k : n ≤ length s = omega (arith, w .counted, w .within) in
       w .onto .whole-of (rw (from s n (c .at) k e, add-zero) a)
 
-pub walking-length : {from : ℕ} → {s o o₀ : List ℕ} {n at p q : ℕ} → Walking from s n at q o p o₀ → length o ≡ length o₀
+pub walking-length : {from : ℕ} {s o o₀ : List ℕ} {n at p q : ℕ} → Walking from s n at q o p o₀ → length o ≡ length o₀
 walking-length w = w .onto .length-of
 
 pub ruleset needs = (kit.needs, walking-none, walking-less, walking-more, walking-end, walking-length)

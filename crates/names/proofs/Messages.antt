@@ -13,12 +13,12 @@ use Rattle.lines.proofs.Fields.{fields}
 use Rattle.names.specs.Names.{listed, kindName}
 use Rattle.names.specs.Messages.{messageLines}
 
-pub put-message : {from : ℕ} → (k : Kind) {v : View (bodyOf k)} {s o o₁ o₂ : List ℕ} {p q r : ℕ}
+pub put-message : {from : ℕ} (k : Kind) {v : View (bodyOf k)} {s o o₁ o₂ : List ℕ} {p q r : ℕ}
     → Prints from (line (chars "kind") (chars (kindName k))) p o q o₁ → Lists from (listed k) s v q o₁ r o₂ → Prints from (messageLines k none s v) p o r o₂
 unfolding messageLines
 put-message k a b = put-then a (b .puts)
 
-pub put-hinted : {from : ℕ} → (k : Kind) (hint : ℕ) {v : View (bodyOf k)} {s o o₁ o₂ o₃ : List ℕ} {p q r t : ℕ}
+pub put-hinted : {from : ℕ} (k : Kind) (hint : ℕ) {v : View (bodyOf k)} {s o o₁ o₂ o₃ : List ℕ} {p q r t : ℕ}
     → Prints from (line (chars "kind") (chars (kindName k))) p o q o₁ → Prints from (line (chars "content_hint") (decimal hint)) q o₁ r o₂ → Lists from (listed k) s v r o₂ t o₃
     → Prints from (messageLines k (some hint) s v) p o t o₃
 unfolding messageLines
@@ -26,7 +26,7 @@ put-hinted k hint a b d = put-then a (put-then b (d .puts))
 
 -- a message of a layer by its case
 module _ {M : Type 0} (kindOf : M → Kind) (viewOf : (m : M) → View (bodyOf (kindOf m))) where
-  pub put-case : {from : ℕ} → (hint : Option ℕ) (s : List ℕ) {m m′ : M} {o o′ : List ℕ} {p r : ℕ} → m ≡ m′ → Prints from (messageLines (kindOf m′) hint s (viewOf m′)) p o r o′
+  pub put-case : {from : ℕ} (hint : Option ℕ) (s : List ℕ) {m m′ : M} {o o′ : List ℕ} {p r : ℕ} → m ≡ m′ → Prints from (messageLines (kindOf m′) hint s (viewOf m′)) p o r o′
       → Prints from (messageLines (kindOf m) hint s (viewOf m)) p o r o′
   put-case hint s e a = rw e a
 

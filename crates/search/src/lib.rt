@@ -160,16 +160,17 @@ fn first_by_eights(s: &[u8], from: usize, stop: usize) -> usize
     first_one_by_one(s, i, stop)
 }
 
-// The index of the first zero byte at or behind `at`; without one the length, or `at` where that is past the end.
-pub fn first_zero(s: &[u8], at: usize) -> usize
-    ensures { λ r. ⌜ r ≡ at + beforeZero (drop at (now (s .entry))) ⌝ }
+// The first zero from `from` on, or the length, by blocks: they start at multiples of 16, aligned if the slice is.
+fn first_by_blocks(s: &[u8], from: usize) -> usize
+    requires { do ⌜ from ≤ (← ⟦s.len()⟧) ⌝ }
+    ensures { λ r. do ⌜ First (byteOf (now (s .entry))) from (← ⟦s.len()⟧ .entry) r ⌝ }
 {
-    let mut i = at;
+    let mut i = from;
     while i < s.len() {
         if s[i] == 0 {
             return i;
         }
-        let stop = smaller(i + 25, s.len());
+        let stop = smaller(i + 32 - i % 16, s.len());
         let r = first_by_eights(s, i + 1, stop);
         if r < stop {
             return r;
@@ -177,6 +178,33 @@ pub fn first_zero(s: &[u8], at: usize) -> usize
         i = pass_16(s, pass_256(s, stop));
     }
     i
+}
+
+// The index of the first zero byte at or behind `at`; without one the length, or `at` where that is past the end.
+pub fn first_zero(s: &[u8], at: usize) -> usize
+    ensures { λ r. ⌜ r ≡ at + beforeZero (drop at (now (s .entry))) ⌝ }
+{
+    if s.len() <= at {
+        return at;
+    }
+    first_by_blocks(s, at)
+}
+
+// The same for names: the first eight bytes are looked at by code so short that the compiler puts it into each reader.
+pub fn first_zero_near(s: &[u8], at: usize) -> usize
+    ensures { λ r. ⌜ r ≡ at + beforeZero (drop at (now (s .entry))) ⌝ }
+{
+    if s.len() <= at {
+        return at;
+    }
+    if s.len() - at < 8 {
+        return first_one_by_one(s, at, s.len());
+    }
+    let r = first_of_8(s, at);
+    if r < at + 8 {
+        return r;
+    }
+    first_by_blocks(s, r)
 }
 
 // ---- units; `at` is where the first one starts

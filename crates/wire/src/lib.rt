@@ -12,6 +12,7 @@ ghost use Rattle.wire.specs.Items.{itemsAt, itemStepped};
 ghost use Rattle.wire.specs.Says.{u8Says, u16Says, u32Says, cstringSays, ucs2Says, blockSays, skipSays};
 ghost use Rattle.wire.specs.Says.{u16ListSays, u32ListSays, itemsSays, u16NextSays, u32NextSays, itemsNextSays, copiedSays};
 use search::first_zero;
+use search::first_zero_near;
 use search::units_before_zero;
 
 // ---- what is read
@@ -209,7 +210,7 @@ impl Cursor {
         ensures { λ r. ⌜ cstringSays r ≡ view cstring (now (body .entry)) (self .at) ⌝ }
     {
         let at = self.at;
-        let end = first_zero(body, at);
+        let end = first_zero_near(body, at);
         if end < body.len() {
             let len = end - at;
             return CStringRead::Read(CString { start: at, len }, Cursor { at: end + 1 });

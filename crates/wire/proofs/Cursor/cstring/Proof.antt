@@ -4,8 +4,8 @@ use Rattle.wire.proofs.Strings.{cstring-there, cstring-none}
 use Rattle.wire.proofs.Cursor.cstring.Statement.{statement}
 use Rattle.wire.proofs.Cursor.cstring.Tie as tie
 
-first-zero-requires : tie.Need-first-zero-requires
-first-zero-requires c κs = search needs
+first-zero-near-requires : tie.Need-first-zero-near-requires
+first-zero-near-requires c κs = search needs
 
 sub-len : tie.Need-sub-len
 sub-len c = omega arith
@@ -14,10 +14,10 @@ add-t9 : tie.Need-add-t9
 add-t9 c = omega arith
 
 returns : tie.Need-returns
-returns c = cstring-there _ _ (c .before .first-zero .ensures) (c .if1 .taken)
+returns c = cstring-there _ _ (c .before .first-zero-near .ensures) (c .if1 .taken)
 
 returns-2 : tie.Need-returns-2
-returns-2 c = cstring-none _ _ (c .before .first-zero .ensures) (c .if1 .left)
+returns-2 c = cstring-none _ _ (c .before .first-zero-near .ensures) (c .if1 .left)
 
 pub cstring-spec : {M : Type 1} → statement M
-cstring-spec = tie.close (tie.spec first-zero-requires sub-len add-t9 returns returns-2)
+cstring-spec = tie.close (tie.spec first-zero-near-requires sub-len add-t9 returns returns-2)

@@ -1,0 +1,92 @@
+//! Lists read and stepped whole.
+use crate::bodies::Part;
+use crate::library;
+use crate::inputs::{body, Size, SMALL};
+use crate::measure::Row;
+use crate::rows::{read, row};
+use crate::rust::Body;
+use citp::protocol::{caex, sdmx};
+use std::hint::black_box;
+
+macro_rules! steps {
+    ($body:expr, $next:ident, $at:expr, $left:expr, $each:expr) => {{
+        let (mut at, mut left, mut sum) = ($at, $left, 0);
+        loop {
+            let item = library::$next($body, at, left);
+            if item.given == 0 {
+                break sum;
+            }
+            sum += $each(&item);
+            (at, left) = (item.at, item.left);
+        }
+    }};
+}
+
+fn fixtures_sum(body: &[u8]) -> u64 {
+    let list = read::<caex::FixtureList>(&mut black_box(body));
+    let identifiers = |x: &caex::Fixture| x.identifiers.iter().map(|i| u8::from(i.identifier_type) as u64).sum::<u64>();
+    list.fixtures.iter().map(|x| x.fixture_identifier as u64 + x.data.channel as u64 + identifiers(x)).sum()
+}
+
+fn our_fixtures_sum(body: &[u8]) -> u64 {
+    let body = black_box(body);
+    let list = library::fixture_list_read(body);
+    steps!(body, fixtures_next, list.fixtures_at, list.fixtures_left, |x: &library::FixtureNext| {
+        let identifiers = steps!(
+            body,
+            identifiers_next,
+            x.identifiers_at,
+            x.identifiers_left,
+            |i: &library::IdentifierNext| i.identifier_type as u64
+        );
+        x.fixture_identifier as u64 + x.data.channel as u64 + identifiers
+    })
+}
+
+pub fn rows(rows: &mut Vec<Row>) {
+    let of = |list| Size { list, ..SMALL };
+    for lamps in [1, 100, 1_000] {
+        let body: &'static [u8] = body(caex::FixtureList::SHAPE, Size { lamps, ..SMALL }).leak();
+        row(rows, "stepped", &format!("fixtures, {lamps}"), || fixtures_sum(body), || our_fixtures_sum(body));
+    }
+    for n in [100, 32_768] {
+        let numbers: &'static [u8] = body(&[Part::List(2)], of(n)).leak();
+        let wide: &'static [u8] = body(&[Part::List(4)], of(n)).leak();
+        row(
+            rows,
+            "stepped",
+            &format!("u16, {n}"),
+            || read::<sdmx::Capa>(&mut black_box(numbers)).capabilities.iter().map(|&x| x as u64).sum(),
+            move || {
+                let body = black_box(numbers);
+                let m = library::capa_read(body);
+                steps!(body, u16_list_next, m.at, m.left, |x: &library::U16Next| x.value as u64)
+            },
+        );
+        row(
+            rows,
+            "stepped",
+            &format!("u32, {n}"),
+            || read::<caex::FixtureRemove>(&mut black_box(wide)).fixture_identifiers.iter().map(|&x| x as u64).sum(),
+            move || {
+                let body = black_box(wide);
+                let m = library::fixture_remove_read(body);
+                steps!(body, u32_list_next, m.at, m.left, |x: &library::U32Next| x.value as u64)
+            },
+        );
+        row(
+            rows,
+            "stepped",
+            &format!("channel levels, {n}"),
+            || read::<sdmx::ChLs>(&mut black_box(wide)).channel_levels.iter().map(black_box).count() as u64,
+            move || {
+                let body = black_box(wide);
+                let m = library::chls_read(body);
+                steps!(body, channel_levels_next, m.at, m.left, |x: &library::ChannelLevelNext| {
+                    black_box(&x.value);
+                    1
+                })
+            },
+        );
+    }
+}

@@ -1,0 +1,272 @@
+// Replays a stored sample of the Rust's answers from standard input (differential/sample makes it): each body is read again, and the fields and
+// bytes taken, or the number of the refusal, are compared with the Rust's answer.
+mod answers;
+mod compared;
+mod writes;
+
+ghost use Prim.Native.Nat.{_≤_};
+use answers::Answer;
+use libc::STDIN_FILENO;
+use libc::STDOUT_FILENO;
+use wire::Block;
+
+// The eighteen kinds that are read, and the base header.
+const KINDS: usize = 19;
+
+// For each kind the bodies that were read, that were refused, and whose answer is not the one that is due; all bodies by our number, 0 where read.
+struct Tally {
+    read: [u64; 19],
+    refused: [u64; 19],
+    differ: [u64; 19],
+    numbers: [u64; 16],
+}
+
+// ---- a record: kind, length of the body, body, number due (7: 7 or 8), and where it is 0 the canonical bytes
+
+fn caex_or_sdmx(kind: u8, body: &[u8], due: &[u8]) -> Answer {
+    match kind {
+        0 => answers::enter_show(body, due),
+        1 => answers::fixture_list(body, due),
+        2 => answers::fixture_remove(body, due),
+        3 => answers::laser_feed_control(body, due),
+        4 => answers::capa(body, due),
+        5 => answers::unam(body, due),
+        6 => answers::chbk(body, due),
+        7 => answers::chls(body, due),
+        _ => answers::sxus(body, due),
+    }
+}
+
+fn answer(kind: u8, body: &[u8], due: &[u8]) -> Answer {
+    match kind {
+        9 => answers::ptch(body, due),
+        10 => answers::uptc(body, due),
+        11 => answers::sptc(body, due),
+        12 => answers::sele(body, due),
+        13 => answers::dese(body, due),
+        14 => answers::sfra(body, due),
+        15 => answers::fram(body, due),
+        16 => answers::pnam(body, due),
+        17 => answers::ploc(body, due),
+        18 => answers::base_header(body, due),
+        _ => caex_or_sdmx(kind, body, due),
+    }
+}
+
+// The Rust does not tell 7 from 8.
+fn is_due(number: u8, due: u8) -> bool {
+    if due == 7 {
+        return number == 7 || number == 8;
+    }
+    number == due
+}
+
+fn agrees(answer: Answer, number: u8, due: &[u8]) -> bool {
+    let compared = answer.compared;
+    if answer.number == 0 {
+        if number == 0 {
+            return compared.is_whole(due);
+        }
+        return false;
+    }
+    is_due(answer.number, number)
+}
+
+// ---- counts
+
+fn one_more(n: u64) -> u64 {
+    if n < 1000000 { n + 1 } else { n }
+}
+
+impl Tally {
+    fn new() -> Tally {
+        Tally {
+            read: [0; 19],
+            refused: [0; 19],
+            differ: [0; 19],
+            numbers: [0; 16],
+        }
+    }
+
+    fn count(self, kind: u8, number: u8, agree: bool) -> Tally {
+        let k = kind as usize;
+        let mut t = self;
+        if KINDS <= k {
+            return t;
+        }
+        if !agree {
+            t.differ[k] = one_more(t.differ[k]);
+        } else if number == 0 {
+            t.read[k] = one_more(t.read[k]);
+        } else {
+            t.refused[k] = one_more(t.refused[k]);
+        }
+        t
+    }
+
+    fn count_number(self, number: u8) -> Tally {
+        let n = number as usize;
+        let mut t = self;
+        if n < 16 {
+            t.numbers[n] = one_more(t.numbers[n]);
+        }
+        t
+    }
+
+    fn compare(self, kind: u8, body: &[u8], number: u8, due: &[u8]) -> Tally {
+        let answer = answer(kind, body, due);
+        let t = self.count_number(answer.number);
+        t.count(kind, answer.number, agrees(answer, number, due))
+    }
+}
+
+fn low_high(low: u8, high: u8) -> usize
+    ensures { λ r. ⌜ r ≤ 65535 ⌝ }
+{
+    (low as usize) + 256 * (high as usize)
+}
+
+fn replay(tally: Tally, record: &[u8]) -> Tally {
+    if record.len() < 4 {
+        return tally;
+    }
+    let end = 3 + low_high(record[1], record[2]);
+    if record.len() <= end {
+        return tally;
+    }
+    tally.compare(record[0], &record[3..end], record[end], &record[end + 1..])
+}
+
+// ---- text
+
+fn text(s: &[u8]) {
+    io::write_all(STDOUT_FILENO, s);
+}
+
+fn decimal(key: &[u8], n: u64) {
+    text(key);
+    io::print_decimal(STDOUT_FILENO, n);
+}
+
+fn caex_or_sdmx_name(kind: usize) {
+    match kind {
+        0 => text(b"EnterShow"),
+        1 => text(b"FixtureList"),
+        2 => text(b"FixtureRemove"),
+        3 => text(b"LaserFeedControl"),
+        4 => text(b"Capa"),
+        5 => text(b"UNam"),
+        6 => text(b"ChBk"),
+        7 => text(b"ChLs"),
+        _ => text(b"Sxus"),
+    }
+}
+
+fn name(kind: usize) {
+    match kind {
+        9 => text(b"Ptch"),
+        10 => text(b"UPtc"),
+        11 => text(b"SPtc"),
+        12 => text(b"Sele"),
+        13 => text(b"DeSe"),
+        14 => text(b"SFra"),
+        15 => text(b"Fram"),
+        16 => text(b"PNam"),
+        17 => text(b"PLoc"),
+        18 => text(b"Header"),
+        _ => caex_or_sdmx_name(kind),
+    }
+}
+
+fn line(read: u64, refused: u64, differ: u64) {
+    decimal(b" read=", read);
+    decimal(b" refused=", refused);
+    decimal(b" differ=", differ);
+    text(b"\n");
+}
+
+// The sum of a count over all kinds.
+fn total(counts: [u64; 19]) -> u64 {
+    let mut sum: u64 = 0;
+    let mut kind = 0;
+    while kind < KINDS {
+        sum = std::num::wrapping_add_u64(sum, counts[kind]);
+        kind += 1;
+    }
+    sum
+}
+
+fn show_kinds(tally: Tally) {
+    let mut kind = 0;
+    while kind < KINDS {
+        name(kind);
+        line(tally.read[kind], tally.refused[kind], tally.differ[kind]);
+        kind += 1;
+    }
+}
+
+fn show(tally: Tally) {
+    show_kinds(tally);
+    decimal(b"refused with 7: ", tally.numbers[7]);
+    decimal(b", 8: ", tally.numbers[8]);
+    decimal(b", 9: ", tally.numbers[9]);
+    decimal(b", 10: ", tally.numbers[10]);
+    let agree = std::num::wrapping_add_u64(total(tally.read), total(tally.refused));
+    decimal(b"\n", agree);
+    decimal(b" agree, ", total(tally.differ));
+    text(b" differ\n");
+}
+
+// ---- the sample
+
+// The length of the next record, 0 at the sample's end.
+fn record_length() -> usize {
+    let mut head = [0u8; 2];
+    if io::read_full(STDIN_FILENO, &mut head) < 2 {
+        return 0;
+    }
+    low_high(head[0], head[1])
+}
+
+// The tally with one record more, and whether there was one.
+struct Replayed {
+    tally: Tally,
+    more: bool,
+}
+
+// The next record into the first bytes of the buffer; its length.
+fn next_record(buffer: &mut [u8]) -> usize {
+    let n = record_length();
+    if buffer.len() < n {
+        return 0;
+    }
+    io::read_full(STDIN_FILENO, &mut buffer[..n])
+}
+
+fn replay_next(tally: Tally) -> Replayed {
+    let mut buffer = io::large_buffer();
+    let n = next_record(&mut buffer);
+    if n == 0 {
+        return Replayed { tally, more: false };
+    }
+    let record = Block { start: 0, len: n };
+    Replayed {
+        tally: replay(tally, record.bytes(&buffer)),
+        more: true,
+    }
+}
+
+fn main() {
+    let mut tally = Tally::new();
+    let mut records: u64 = 0;
+    while records < 65536 {
+        let next = replay_next(tally);
+        tally = next.tally;
+        if next.more {
+            records += 1;
+        } else {
+            break;
+        }
+    }
+    show(tally);
+}

@@ -1,0 +1,216 @@
+//! Bodies to read: every short one, good ones of every size class with every cut, and damaged copies.
+use crate::random::Random;
+
+/// What a body is made of, in wire order.
+#[derive(Clone, Copy)]
+pub enum Part {
+    /// So many bytes of numbers.
+    Bytes(usize),
+    /// A type byte below this limit.
+    Code(u8),
+    CString,
+    Ucs2,
+    /// A u16 count and items of so many bytes.
+    List(usize),
+    Fixtures,
+}
+
+#[derive(Clone, Copy, PartialEq)]
+pub enum Size {
+    Small,
+    Middle,
+    /// Around 256 bytes, units or items.
+    Large,
+    /// Near 65,535.
+    Long,
+}
+
+impl Size {
+    fn string(self, random: &mut Random) -> usize {
+        match self {
+            Size::Small => random.between(0, 8),
+            Size::Middle => random.between(9, 70),
+            Size::Large => random.between(240, 272),
+            Size::Long => random.between(65_525, 65_545),
+        }
+    }
+
+    fn items(self, random: &mut Random) -> usize {
+        match self {
+            Size::Small => random.between(0, 5),
+            Size::Middle => random.between(6, 40),
+            Size::Large => random.between(250, 260),
+            Size::Long => random.between(65_530, 65_535),
+        }
+    }
+
+    fn fixtures(self, random: &mut Random) -> usize {
+        match self {
+            Size::Small => random.between(0, 2),
+            Size::Long => random.between(255, 257),
+            _ => random.between(1, 4),
+        }
+    }
+
+    fn identifiers(self, random: &mut Random) -> usize {
+        match self {
+            Size::Long if random.below(64) == 0 => random.between(250, 255),
+            _ => random.below(4),
+        }
+    }
+
+    fn block(self, random: &mut Random) -> usize {
+        match (random.below(4), self) {
+            (0, _) => 0,
+            (1, _) => 2,
+            (2, Size::Large) => random.between(250, 260),
+            (2, Size::Long) if random.below(200) == 0 => random.between(65_530, 65_535),
+            _ => 16,
+        }
+    }
+}
+
+fn bytes(n: usize, random: &mut Random, out: &mut Vec<u8>) {
+    (0..n).for_each(|_| out.push(random.byte()));
+}
+
+fn cstring(n: usize, random: &mut Random, out: &mut Vec<u8>) {
+    (0..n).for_each(|_| out.push(random.byte().max(1)));
+    out.push(0);
+}
+
+/// Units with a zero byte in either half are likely.
+fn ucs2(n: usize, random: &mut Random, out: &mut Vec<u8>) {
+    for _ in 0..n {
+        let (low, high) = (random.byte(), random.byte());
+        out.extend_from_slice(&[if high == 0 { low.max(1) } else { low }, high]);
+    }
+    out.extend_from_slice(&[0, 0]);
+}
+
+/// Signalling and quiet NaNs, infinities, both zeros and others.
+fn float(random: &mut Random, out: &mut Vec<u8>) {
+    let bits = random.next() as u32;
+    let bits = match random.below(5) {
+        0 => 0x7F80_0001,
+        1 => bits | 0x7F80_0000,
+        2 => bits & 0x8000_0000,
+        _ => bits,
+    };
+    out.extend_from_slice(&bits.to_le_bytes());
+}
+
+fn identifier(size: Size, random: &mut Random, out: &mut Vec<u8>) {
+    out.push(random.below(6) as u8);
+    let n = size.block(random);
+    out.extend_from_slice(&(n as u16).to_le_bytes());
+    bytes(n, random, out);
+}
+
+/// A string of a fixture: short ones in long lists, but for one in a thousand.
+fn fixture_string(size: Size, random: &mut Random, out: &mut Vec<u8>) {
+    let size = match size {
+        Size::Middle => Size::Middle,
+        Size::Long if random.below(1000) == 0 => Size::Long,
+        _ => Size::Small,
+    };
+    ucs2(size.string(random), random, out);
+}
+
+fn fixture(size: Size, random: &mut Random, out: &mut Vec<u8>) {
+    bytes(4, random, out);
+    (0..3).for_each(|_| fixture_string(size, random, out));
+    bytes(3, random, out);
+    let n = size.identifiers(random);
+    out.push(n as u8);
+    (0..n).for_each(|_| identifier(size, random, out));
+    bytes(4, random, out);
+    fixture_string(size, random, out);
+    bytes(2, random, out);
+    (0..2).for_each(|_| fixture_string(size, random, out));
+    (0..6).for_each(|_| float(random, out));
+}
+
+/// A body that can be read.
+pub fn good(shape: &[Part], size: Size, random: &mut Random) -> Vec<u8> {
+    let mut out = Vec::new();
+    for part in shape {
+        match *part {
+            Part::Bytes(n) => bytes(n, random, &mut out),
+            Part::Code(limit) => out.push(random.below(limit as usize) as u8),
+            Part::CString => cstring(size.string(random), random, &mut out),
+            Part::Ucs2 => ucs2(size.string(random), random, &mut out),
+            Part::List(width) => {
+                let n = size.items(random);
+                out.extend_from_slice(&(n as u16).to_le_bytes());
+                bytes(n * width, random, &mut out);
+            }
+            Part::Fixtures => {
+                let n = size.fixtures(random);
+                out.extend_from_slice(&(n as u16).to_le_bytes());
+                (0..n).for_each(|_| fixture(size, random, &mut out));
+            }
+        }
+    }
+    out
+}
+
+/// One to three changes: a byte set, a bit turned, a cut, a byte out, a byte in, bytes added.
+pub fn damage(body: &mut Vec<u8>, random: &mut Random) {
+    for _ in 0..random.between(1, 3) {
+        let n = body.len();
+        let at = random.below(n.max(1));
+        match random.below(6) {
+            0 if n > 0 => body[at] = random.byte(),
+            1 if n > 0 => body[at] ^= 1 << random.below(8),
+            2 => body.truncate(at),
+            3 if n > 0 => {
+                body.remove(at);
+            }
+            4 => body.insert(at, random.byte()),
+            _ => bytes(random.below(5), random, body),
+        }
+    }
+}
+
+/// A good body, every cut of it (of a long one those near both ends and some between), and as many damaged copies.
+pub fn round(shape: &[Part], size: Size, random: &mut Random, visit: &mut dyn FnMut(&[u8])) {
+    let body = good(shape, size, random);
+    let n = body.len();
+    visit(&body);
+    let mut copy = Vec::with_capacity(n + 16);
+    let mut pair = |cut: usize, random: &mut Random| {
+        visit(&body[..cut]);
+        copy.clear();
+        copy.extend_from_slice(&body);
+        damage(&mut copy, random);
+        visit(&copy);
+    };
+    if n <= 2_000 {
+        (0..n).for_each(|cut| pair(cut, random));
+    } else {
+        (0..40).for_each(|k| pair(k, random));
+        (1..41).for_each(|k| pair(n - k, random));
+        (0..20).for_each(|_| pair(random.below(n), random));
+    }
+}
+
+/// Every body of up to two bytes, then all of three to six bytes over the alphabet.
+pub fn short(alphabet: &[u8], visit: &mut dyn FnMut(&[u8])) {
+    visit(&[]);
+    for a in 0..=255 {
+        visit(&[a]);
+        (0..=255).for_each(|b| visit(&[a, b]));
+    }
+    for n in 3..=6 {
+        for number in 0..alphabet.len().pow(n) {
+            let mut body = [0; 6];
+            let mut rest = number;
+            for byte in &mut body[..n as usize] {
+                *byte = alphabet[rest % alphabet.len()];
+                rest /= alphabet.len();
+            }
+            visit(&body[..n as usize]);
+        }
+    }
+}

@@ -1,0 +1,205 @@
+//! Our readers: the canonical bytes of what the archive answers.
+use crate::canon::{self, Canon};
+use crate::library;
+use crate::plant;
+use citp::protocol::{caex, finf, fptc, fsel, pinf, sdmx, Header};
+
+/// What a reader answered: its number (0: read) and the bytes taken.
+pub struct Answer {
+    pub number: u8,
+    pub taken: usize,
+}
+
+pub trait Ours {
+    /// Reads a body; the canonical bytes of what was read are put behind `out`.
+    fn read_ours(body: &[u8], out: &mut Vec<u8>) -> Answer;
+}
+
+/// Stands for the canonical bytes of an answer that points outside its body or that a step or a copy contradicts.
+const WRONG: &[u8] = b"wrong range, step or copy";
+
+// ---- strings and blocks: ranges of the body
+
+struct Block<'a>(&'a [u8], usize, usize);
+struct CString<'a>(&'a [u8], usize, usize);
+struct Ucs2<'a>(&'a [u8], usize, usize);
+
+fn part(body: &[u8], start: usize, len: usize) -> Option<&[u8]> {
+    body.get(start..)?.get(..len)
+}
+
+/// The elements before the zero: 13 into one element less, which stay as they were, then copied into exactly so many.
+fn copied<T: Copy + Default + PartialEq>(len: usize, copy: impl Fn(&mut [T]) -> library::Copied) -> Option<Vec<T>> {
+    let mut out = vec![T::default(); len];
+    if len > 0 {
+        let refused = copy(&mut out[..len - 1]) == (library::Copied { number: 13, len: 0 });
+        if !refused || out.iter().any(|&element| element != T::default()) {
+            return None;
+        }
+    }
+    let copied = copy(&mut out) == (library::Copied { number: 0, len });
+    copied.then_some(out)
+}
+
+impl Canon for Block<'_> {
+    fn canon(&self, out: &mut Vec<u8>) {
+        canon::block(part(self.0, self.1, self.2).unwrap_or(WRONG), out);
+    }
+}
+
+impl Canon for CString<'_> {
+    fn canon(&self, out: &mut Vec<u8>) {
+        let CString(body, start, len) = *self;
+        let copy = copied(len, |out| library::copy_cstring(body, start, out));
+        match (part(body, start, len), copy) {
+            (Some(bytes), Some(copy)) if bytes == copy => canon::block(bytes, out),
+            _ => canon::block(WRONG, out),
+        }
+    }
+}
+
+impl Canon for Ucs2<'_> {
+    fn canon(&self, out: &mut Vec<u8>) {
+        let Ucs2(body, start, len) = *self;
+        let copy = copied(len, |out| library::copy_ucs2(body, start, out));
+        match (part(body, start, 2 * len), copy) {
+            (Some(bytes), Some(copy)) if bytes.chunks(2).zip(&copy).all(|(two, unit)| two == unit.to_le_bytes()) => {
+                canon::units(&copy, out)
+            }
+            _ => canon::block(WRONG, out),
+        }
+    }
+}
+
+// ---- lists: cursors stepped through
+
+/// A body, the place of the next item, and the items left.
+struct List<'a, N>(&'a [u8], usize, u16, fn(&[u8], usize, u16) -> N);
+
+/// A step of a list: whether an item was given, its number, and the cursor behind it.
+trait Next {
+    fn step(&self) -> (bool, u8, usize, u16);
+    fn item(&self, body: &[u8], out: &mut Vec<u8>);
+}
+
+impl<N: Next> Canon for List<'_, N> {
+    fn canon(&self, out: &mut Vec<u8>) {
+        let List(body, mut at, mut left, next) = *self;
+        loop {
+            let step = next(body, at, left);
+            let (given, number, next_at, next_left) = step.step();
+            if number != 0 {
+                return out.extend_from_slice(WRONG);
+            }
+            if !given {
+                return out.push(0);
+            }
+            out.push(1);
+            step.item(body, out);
+            (at, left) = (next_at, next_left);
+            if plant::on(4) && left == 1 && at > 40 && std::any::type_name::<N>().ends_with("U32Next") {
+                left = 0;
+            }
+        }
+    }
+}
+
+macro_rules! lists {
+    ($($make:ident, $next:ident, $step:ident, |$m:ident, $body:ident| $($field:expr),*;)*) => { $(
+        impl Next for library::$next {
+            fn step(&self) -> (bool, u8, usize, u16) {
+                (self.given == 1, self.number, self.at, self.left as u16)
+            }
+
+            fn item(&self, $body: &[u8], out: &mut Vec<u8>) {
+                let $m = self;
+                $($field.canon(out);)*
+            }
+        }
+
+        fn $make(body: &[u8], at: usize, left: u16) -> List<'_, library::$next> {
+            List(body, at, left, |body, at, left| library::$step(body, at, left as _))
+        }
+    )* };
+}
+lists! {
+    u16_list, U16Next, u16_list_next, |m, _body| m.value;
+    u32_list, U32Next, u32_list_next, |m, _body| m.value;
+    channel_levels, ChannelLevelNext, channel_levels_next, |m, _body|
+        m.value.universe_index, m.value.channel, m.value.channel_level;
+    identifiers, IdentifierNext, identifiers_next, |m, body|
+        m.identifier_type, m.data_len as u16, Block(body, m.data_start, m.data_len);
+    fixtures, FixtureNext, fixtures_next, |m, body|
+        m.fixture_identifier,
+        Ucs2(body, m.manufacturer_name_start, m.manufacturer_name_len),
+        Ucs2(body, m.fixture_name_start, m.fixture_name_len),
+        Ucs2(body, m.mode_name_start, m.mode_name_len),
+        m.channel_count,
+        m.is_dimmer,
+        m.identifiers_left,
+        identifiers(body, m.identifiers_at, m.identifiers_left as u16),
+        m.data.patched,
+        m.data.universe,
+        m.data.universe_channel,
+        Ucs2(body, m.unit_start, m.unit_len),
+        m.data.channel,
+        Ucs2(body, m.circuit_start, m.circuit_len),
+        Ucs2(body, m.note_start, m.note_len),
+        plant::float(m.data.position_x),
+        m.data.position_y,
+        m.data.position_z,
+        m.data.angle_x,
+        m.data.angle_y,
+        m.data.angle_z;
+}
+
+// ---- bodies
+
+macro_rules! readers {
+    ($($t:ty, $read:ident, $answer:ident, |$m:ident, $body:ident| $($field:expr),*;)*) => { $(impl Ours for $t {
+        fn read_ours($body: &[u8], out: &mut Vec<u8>) -> Answer {
+            let $m = library::$read($body);
+            if $m.number == 0 {
+                $($field.canon(out);)*
+            } else if $m != (library::$answer { number: $m.number, ..Default::default() }) {
+                out.extend_from_slice(b"a refused answer holds more than its number");
+            }
+            plant::answer(stringify!($read), Answer { number: $m.number, taken: $m.taken })
+        }
+    })* };
+}
+readers! {
+    caex::EnterShow, enter_show_read, StringBody, |m, body| Ucs2(body, m.start, m.len);
+    caex::FixtureList<'_>, fixture_list_read, FixtureList, |m, body|
+        m.message_type, m.fixtures_left, fixtures(body, m.fixtures_at, m.fixtures_left);
+    caex::FixtureRemove<'_>, fixture_remove_read, ListBody, |m, body| m.left, u32_list(body, m.at, m.left);
+    caex::LaserFeedControl, laser_feed_control_read, LaserFeedControl, |m, body| m.feed_index, m.frame_rate;
+    sdmx::Capa<'_>, capa_read, ListBody, |m, body| u16_list(body, m.at, m.left);
+    sdmx::UNam, unam_read, UniverseString, |m, body|
+        m.universe_index, CString(body, m.string_start, m.string_len);
+    sdmx::ChBk<'_>, chbk_read, Chbk, |m, body|
+        m.blind, m.universe_index, m.first_channel, Block(body, m.channel_levels_start, m.channel_levels_len);
+    sdmx::ChLs<'_>, chls_read, ListBody, |m, body| channel_levels(body, m.at, m.left);
+    sdmx::Sxus, sxus_read, UniverseString, |m, body|
+        m.universe_index, CString(body, m.string_start, m.string_len);
+    fptc::Ptch, ptch_read, Ptch, |m, body|
+        m.fixture_identifier, m.universe, m.reserved, m.channel, m.channel_count,
+        CString(body, m.fixture_make_start, m.fixture_make_len),
+        CString(body, m.fixture_name_start, m.fixture_name_len);
+    fptc::UPtc<'_>, uptc_read, ListBody, |m, body| u16_list(body, m.at, m.left);
+    fptc::SPtc<'_>, sptc_read, ListBody, |m, body| u16_list(body, m.at, m.left);
+    fsel::Sele<'_>, sele_read, Sele, |m, body|
+        m.complete, m.reserved, u16_list(body, m.fixture_identifiers_at, m.fixture_identifiers_left);
+    fsel::DeSe<'_>, dese_read, ListBody, |m, body| u16_list(body, m.at, m.left);
+    finf::SFra<'_>, sfra_read, ListBody, |m, body| u16_list(body, m.at, m.left);
+    finf::Fram, fram_read, Fram, |m, body|
+        m.fixture_identifier, m.frame_filter_count, m.frame_gobo_count,
+        CString(body, m.frame_names_start, m.frame_names_len);
+    pinf::PNam, pnam_read, StringBody, |m, body| CString(body, m.start, m.len);
+    pinf::PLoc, ploc_read, Ploc, |m, body|
+        m.listening_tcp_port, CString(body, m.kind_start, m.kind_len), CString(body, m.name_start, m.name_len),
+        CString(body, m.state_start, m.state_len);
+    Header, header_read, Header, |m, body|
+        m.cookie, m.version_major, m.version_minor, m.request_index, m.message_size, m.message_part_count,
+        m.message_part, m.content_type;
+}

@@ -1,0 +1,112 @@
+//! The differential run: jobs with seeds of their own, taken by as many threads as there are cores.
+use crate::kinds::KINDS;
+use crate::random::Random;
+use crate::refusals;
+use crate::tally::{hex, Tally};
+use crate::values;
+use std::sync::atomic::{AtomicUsize, Ordering};
+use std::sync::Mutex;
+use std::time::Instant;
+
+pub const SEED: u64 = 0x9E37_79B9_7F4A_7C15;
+/// Bodies of a job of rounds.
+const JOB: u64 = 200_000;
+/// Bodies of up to two bytes, and of three to six over seven bytes.
+const SHORT_BODIES: u64 = 1 + 256 + 65_536 + 343 + 2_401 + 16_807 + 117_649;
+
+enum Job {
+    Short(usize),
+    Rounds(usize, u64),
+    Values(u64),
+    Refusals,
+}
+
+/// The short bodies of every kind, then for each kind in turn as many rounds as so many bodies need.
+fn jobs(bodies: u64) -> Vec<Job> {
+    let mut jobs = vec![Job::Refusals];
+    jobs.extend((0..KINDS.len()).map(Job::Short));
+    let short = KINDS.len() as u64 * SHORT_BODIES;
+    let rounds = bodies.saturating_sub(short).div_ceil(JOB * KINDS.len() as u64);
+    for round in 0..rounds {
+        jobs.extend((0..KINDS.len()).map(|kind| Job::Rounds(kind, round)));
+        jobs.push(Job::Values(round));
+    }
+    jobs
+}
+
+struct Results {
+    kinds: Vec<Tally>,
+    values: Tally,
+    refusals: Tally,
+}
+
+fn work(jobs: &[Job], next: &AtomicUsize, results: &Mutex<Results>) {
+    while let Some(job) = jobs.get(next.fetch_add(1, Ordering::Relaxed)) {
+        let mut tally = Tally::default();
+        match *job {
+            Job::Short(kind) => (KINDS[kind].short)(&mut tally),
+            Job::Rounds(kind, number) => {
+                (KINDS[kind].rounds)(&mut Random::of(SEED, KINDS[kind].name, number), JOB, &mut tally)
+            }
+            Job::Values(number) => values::laser_feeds(&mut Random::of(SEED, "laser feeds", number), &mut tally),
+            Job::Refusals => refusals::compare(&mut tally),
+        }
+        let mut results = results.lock().expect("no thread panics with the lock");
+        match *job {
+            Job::Short(kind) | Job::Rounds(kind, _) => results.kinds[kind].add(tally),
+            Job::Values(_) => results.values.add(tally),
+            Job::Refusals => results.refusals.add(tally),
+        }
+    }
+}
+
+fn show_counts(results: &Results) {
+    println!("{}", Tally::heading());
+    for (kind, tally) in KINDS.iter().zip(&results.kinds) {
+        println!("{}", tally.line(kind.name));
+    }
+    println!(
+        "laser feeds (written only): {} values written, {} differ",
+        results.values.written,
+        results.values.differ()
+    );
+    let calls: Vec<String> = (9..16).map(|number| format!("{number}: {}", results.refusals.numbers[number])).collect();
+    println!("calls refused with {}; {} differ", calls.join(", "), results.refusals.differ());
+}
+
+fn show_differences(results: &Results) {
+    for (kind, tally) in KINDS.iter().zip(&results.kinds) {
+        for (what, found) in &tally.differences {
+            let input = (kind.shrink)(&found.input, what);
+            println!("DIFFERENCE {}: {what}, {} times; smallest input {}", kind.name, found.count, hex(&input));
+            println!("    {}", (kind.answers)(&input));
+        }
+    }
+    for (what, found) in results.values.differences.iter().chain(&results.refusals.differences) {
+        println!("DIFFERENCE {what}, {} times: {} {}", found.count, found.detail, hex(&found.input));
+    }
+}
+
+/// Runs at least so many bodies; whether there was no difference.
+pub fn run(bodies: u64) -> bool {
+    let start = Instant::now();
+    let jobs = jobs(bodies);
+    let results = Mutex::new(Results {
+        kinds: KINDS.iter().map(|_| Tally::default()).collect(),
+        values: Tally::default(),
+        refusals: Tally::default(),
+    });
+    let next = AtomicUsize::new(0);
+    let threads = std::thread::available_parallelism().map_or(1, |n| n.get());
+    std::thread::scope(|scope| (0..threads).for_each(|_| drop(scope.spawn(|| work(&jobs, &next, &results)))));
+    let results = results.into_inner().expect("no thread panics with the lock");
+    show_counts(&results);
+    show_differences(&results);
+    let bodies: u64 = results.kinds.iter().map(|tally| tally.bodies).sum();
+    let differ: u64 = results.kinds.iter().chain([&results.values, &results.refusals]).map(Tally::differ).sum();
+    println!(
+        "{bodies} bodies, {differ} differ; seed {SEED:#018X}, {threads} threads, {:.0} s",
+        start.elapsed().as_secs_f64()
+    );
+    differ == 0
+}

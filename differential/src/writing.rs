@@ -1,0 +1,173 @@
+//! A value written by both, compared: the body alone, the whole packet, sizes, outputs one byte short, and every byte
+//! that must stay.
+use crate::canon::written;
+use crate::given::{Given, Layer};
+use crate::library;
+use crate::pens::{Alone, Packet};
+use crate::plant;
+use citp::protocol::Header;
+
+/// What the output holds before a call, and how far bodies are written from its ends.
+pub fn blank(len: usize) -> Vec<u8> {
+    (0..len).map(|i| (i * 37 + 11) as u8).collect()
+}
+
+const FRONT: usize = 5;
+const BEHIND: usize = 7;
+const REQUEST_INDEX: u16 = 0x0708;
+const CONTENT_HINT: u32 = 0x0102_0304;
+
+/// `out` is what it was, but for `bytes` from `at` on.
+pub fn holds(out: &[u8], at: usize, bytes: &[u8]) -> bool {
+    let end = at + bytes.len();
+    let was = |range: std::ops::Range<usize>| range.into_iter().all(|i| out[i] == (i * 37 + 11) as u8);
+    end <= out.len() && was(0..at) && &out[at..end] == bytes && was(end..out.len())
+}
+
+/// A kind whose values are written and compared.
+pub trait Writes {
+    fn compare_writing(&self) -> Result<(), &'static str>;
+}
+
+/// The kinds whose `size_bytes` is not the length written (docs/DIFFERENCES.md 18, 19).
+const OTHER_SIZES: [u8; 3] = [library::UPTC, library::SPTC, library::CHLS];
+
+fn compare_size<T: Given>(value: &T, written: usize) -> Result<(), &'static str> {
+    let due = if OTHER_SIZES.contains(&T::KIND) { written } else { value.size_bytes() };
+    match value.size() {
+        Some(size) if size != due => Err("size_bytes"),
+        _ => Ok(()),
+    }
+}
+
+fn compare_alone<T: Given>(value: &T, due: &[u8]) -> Result<(), &'static str> {
+    let mut out = blank(FRONT + due.len() + BEHIND);
+    let mut pen = Alone { out: &mut out, at: FRONT };
+    let taken = value.give(&mut pen) == 0 && pen.at == FRONT + due.len();
+    if plant::on(5) && T::KIND == library::PLOC {
+        out[FRONT + due.len() - 1] ^= 1;
+    }
+    if taken && holds(&out, FRONT, due) {
+        Ok(())
+    } else {
+        Err("body written")
+    }
+}
+
+/// The last call is refused: what the calls before it wrote stands, and nothing else.
+fn compare_alone_short<T: Given>(value: &T, due: &[u8]) -> Result<(), &'static str> {
+    let mut out = blank(FRONT + due.len() - 1);
+    let mut pen = Alone { out: &mut out, at: FRONT };
+    let number = value.give(&mut pen);
+    let stands = pen.at - FRONT;
+    if plant::on(6) && T::KIND == library::SELE {
+        out[0] ^= 1;
+    }
+    if number == 13 && stands < due.len() && holds(&out, FRONT, &due[..stands]) {
+        Ok(())
+    } else {
+        Err("body into an output one byte short")
+    }
+}
+
+fn compare_packet<T: Given>(value: &T, due: &[u8]) -> Result<(), &'static str> {
+    let mut out = blank(due.len() + BEHIND);
+    let mut packet = Packet::new(&mut out);
+    let taken =
+        packet.open(T::KIND, REQUEST_INDEX, CONTENT_HINT) == 0 && value.give(&mut packet) == 0 && packet.close() == 0;
+    let at = packet.state.at;
+    if taken && at == due.len() && holds(&out, 0, due) {
+        Ok(())
+    } else {
+        Err("packet written")
+    }
+}
+
+fn compare_packet_short<T: Given>(value: &T, due: &[u8]) -> Result<(), &'static str> {
+    let mut out = blank(due.len() - 1);
+    let mut packet = Packet::new(&mut out);
+    let opened = packet.open(T::KIND, REQUEST_INDEX, CONTENT_HINT);
+    let number = if due.len() > T::Layer::LENGTH { value.give(&mut packet) } else { opened };
+    let stands = packet.state.at;
+    // the size field is 0 until close
+    let mut due = due.to_vec();
+    due[8..12].fill(0);
+    if number == 13 && stands < due.len() && holds(&out, 0, &due[..stands]) {
+        Ok(())
+    } else {
+        Err("packet into an output one byte short")
+    }
+}
+
+/// The walk on the Rust's packet: a message of its kind, of a laser feed an unknown kind.
+fn compare_walk<T: Given>(packet: &[u8]) -> Result<(), &'static str> {
+    let number_at = |at: usize| u32::from_le_bytes([packet[at], packet[at + 1], packet[at + 2], packet[at + 3]]);
+    let mut due = library::Step {
+        request_index: REQUEST_INDEX,
+        size: packet.len() as u32,
+        next: packet.len(),
+        ..Default::default()
+    };
+    if T::KIND <= library::PLOC {
+        due.report = library::MESSAGE;
+        due.kind = T::KIND;
+        due.content_hint = if T::Layer::LENGTH == 28 { CONTENT_HINT } else { 0 };
+        due.body_start = T::Layer::LENGTH;
+        due.body_len = packet.len() - T::Layer::LENGTH;
+    } else {
+        due.report = library::UNKNOWN_KIND;
+        due.layer = number_at(16);
+        due.content_type = number_at(20);
+    }
+    let step = library::walk_step(packet, 0);
+    if step == due {
+        Ok(())
+    } else {
+        Err("walk over the packet")
+    }
+}
+
+impl<T: Given> Writes for T {
+    fn compare_writing(&self) -> Result<(), &'static str> {
+        let due = written(self);
+        compare_size(self, due.len())?;
+        compare_alone(self, &due)?;
+        compare_alone_short(self, &due)?;
+        let packet = self.message(due.len(), REQUEST_INDEX, CONTENT_HINT);
+        compare_packet(self, &packet)?;
+        compare_walk::<T>(&packet)?;
+        compare_packet_short(self, &packet)
+    }
+}
+
+impl Writes for Header {
+    fn compare_writing(&self) -> Result<(), &'static str> {
+        let due = written(self);
+        let request_index = u16::from_le_bytes([due[6], due[7]]);
+        let write = |out: &mut [u8]| {
+            let (major, minor) = (self.version_major, self.version_minor);
+            let (size, parts, part) = (self.message_size, self.message_part_count, self.message_part);
+            library::header_write(
+                out,
+                FRONT,
+                self.cookie,
+                major,
+                minor,
+                request_index,
+                size,
+                parts,
+                part,
+                self.content_type,
+            )
+        };
+        let mut out = blank(FRONT + due.len() + BEHIND);
+        if write(&mut out) != (library::Put { number: 0, at: FRONT + due.len() }) || !holds(&out, FRONT, &due) {
+            return Err("header written");
+        }
+        let mut out = blank(FRONT + due.len() - 1);
+        if write(&mut out) != (library::Put { number: 13, at: FRONT }) || !holds(&out, FRONT, &[]) {
+            return Err("header into an output one byte short");
+        }
+        Ok(())
+    }
+}
