@@ -58,7 +58,7 @@ abbrev pub endedLines : (packets : ℕ) → Option (ℕ × ℕ) → List ℕ
 endedLines packets none = []
 endedLines packets (some end) = endLines packets (end .0)
 
--- the walk over a stream, every slice's of which ends
+-- the text of a stream; the walk over every slice ends
 unfoldable pub listing : (stream : List ℕ) → List ℕ
 unfolding walk reportLines endLines concatMap
 listing s = let w = walk s in concatMap (reportLines s) (w .0) ++ endedLines (length (w .0)) (w .1)
