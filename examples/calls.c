@@ -181,6 +181,17 @@ static void read_packet(citp_step s, uint8_t kind) {
     kind <= CITP_LASER_FEED_CONTROL ? read_caex(kind) : kind <= CITP_SXUS ? read_sdmx(kind) : read_others(kind);
 }
 
+/* The largest counts stand in the state. */
+static void counts(void) {
+    open(CITP_FIXTURE_LIST);
+    CHECK(citp_writer_fixture_list_head(w, out(), room(), 0, 65536).number == 12);
+    taken(citp_writer_fixture_list_head(w, out(), room(), 0, 65535));
+    CHECK(w.turn == CITP_TURN_ITEMS && w.kind == CITP_FIXTURE_LIST && w.items == 65535 && w.identifiers == 0 && w.at == 27);
+    CHECK(citp_writer_fixture_head(w, out(), room(), 1, NULL, 0, NULL, 0, NULL, 0, 2, 3, 256).number == 12);
+    taken(citp_writer_fixture_head(w, out(), room(), 1, NULL, 0, NULL, 0, NULL, 0, 2, 3, 255));
+    CHECK(w.turn == CITP_TURN_PARTS && w.items == 65534 && w.identifiers == 255 && w.at == 41);
+}
+
 int main(void) {
     w = citp_writer_new();
     write_caex(), write_sdmx(), write_others();
@@ -190,9 +201,10 @@ int main(void) {
         s = citp_walk_step(stream, end, s.next);
     }
     CHECK(s.report == CITP_END && s.number == 0 && s.offset == end && s.next == end);
-    citp_writer none = {9, 99, 1, 2, 3};
+    citp_writer none = {9, 99, 0x0102, 3, 0x04050607};
     citp_written r = citp_writer_close(none, stream, sizeof stream);
-    CHECK(r.number == 14 && r.writer.turn == 9 && r.writer.kind == 99 && r.writer.items == 1 && r.writer.identifiers == 2 && r.writer.at == 3);
+    CHECK(r.number == 14 && r.writer.turn == 9 && r.writer.kind == 99 && r.writer.items == 0x0102 && r.writer.identifiers == 3 && r.writer.at == 0x04050607);
+    counts();
     printf("18 kinds written, walked and read back\n");
     return 0;
 }

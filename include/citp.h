@@ -433,9 +433,9 @@ citp_put citp_laser_point_write(uint8_t *out, size_t out_len, size_t at, uint8_t
 typedef struct {
     uint8_t turn;
     uint8_t kind;
-    size_t items;
-    size_t identifiers;
-    size_t at; /* bytes of the packet that stand */
+    uint16_t items;
+    uint8_t identifiers;
+    uint32_t at; /* bytes of the packet that stand */
 } citp_writer;
 
 typedef struct {

@@ -291,9 +291,9 @@ pub struct Copied {
 pub struct Writer {
     pub turn: u8,
     pub kind: u8,
-    pub items: usize,
-    pub identifiers: usize,
-    pub at: usize,
+    pub items: u16,
+    pub identifiers: u8,
+    pub at: u32,
 }
 
 #[repr(C)]

@@ -19,18 +19,29 @@ pub const MOVED: u8 = 99;
 
 /// Where the next call writes.
 pub trait At {
-    fn at(&mut self) -> &mut usize;
+    fn at(&self) -> usize;
+
+    /// To a place, or to the last that a state has.
+    fn set_at(&mut self, at: usize);
 }
 
 impl At for Alone<'_> {
-    fn at(&mut self) -> &mut usize {
-        &mut self.at
+    fn at(&self) -> usize {
+        self.at
+    }
+
+    fn set_at(&mut self, at: usize) {
+        self.at = at;
     }
 }
 
 impl At for Packet<'_> {
-    fn at(&mut self) -> &mut usize {
-        &mut self.state.at
+    fn at(&self) -> usize {
+        self.state.at as usize
+    }
+
+    fn set_at(&mut self, at: usize) {
+        self.state.at = u32::try_from(at).unwrap_or(u32::MAX);
     }
 }
 

@@ -1,6 +1,6 @@
 //! Calls that are to be refused: the number, and output and state as they were.
 use crate::library::{self, ChannelLevel, FixtureData};
-use crate::pens::{Alone, Packet, Pen};
+use crate::pens::{Alone, At, Packet, Pen};
 use crate::tally::Tally;
 use crate::writing::{blank, holds};
 
@@ -79,13 +79,13 @@ impl Calls<'_> {
     fn at_limit(&mut self, what: &'static str, place: Place, call: &dyn Fn(&mut dyn Pen) -> u8) {
         for alone in [true, false] {
             let (size, _) = with_pen(alone, place, &|pen| {
-                let start = *pen.at();
+                let start = pen.at();
                 assert_eq!(call(pen), 0);
-                *pen.at() - start
+                pen.at() - start
             });
             for (at, due) in [(LIMIT - size, 13), (LIMIT - size + 1, 15), (LIMIT, 15), (usize::MAX, 15)] {
                 let (number, kept) = with_pen(alone, place, &|pen| {
-                    *pen.at() = at;
+                    pen.set_at(at);
                     call(pen)
                 });
                 self.count(what, due, number, kept);
@@ -233,7 +233,8 @@ fn out_of_turn(c: &mut Calls, kind: u8) {
 
 /// States that no call answers: placed before the headers' end, behind the output or the limit, of no turn or kind.
 fn made_up_states(c: &mut Calls, kind: u8) {
-    let headers = headers_of(kind);
+    let headers = headers_of(kind) as u32;
+    let (room, limit) = (ROOM as u32, LIMIT as u32);
     let states = [
         (library::TURN_BODY, kind, 0),
         (library::TURN_BODY, kind, headers - 1),
@@ -249,7 +250,7 @@ fn made_up_states(c: &mut Calls, kind: u8) {
         c.in_packet("a made-up state", 14, &mut packet, |packet| BODIES[kind as usize](packet));
         c.in_packet("close of a made-up state", 14, &mut packet, |packet| packet.close());
     }
-    for (at, due) in [(headers - 1, 14), (ROOM + 1, 13), (LIMIT, 13), (LIMIT + 1, 15), (usize::MAX, 15)] {
+    for (at, due) in [(headers - 1, 14), (room + 1, 13), (limit, 13), (limit + 1, 15), (u32::MAX, 15)] {
         let mut out = blank(ROOM);
         let state = library::Writer { turn: library::TURN_ITEMS, kind, items: 0, identifiers: 0, at };
         c.in_packet("close at a made-up place", due, &mut Packet { out: &mut out, state }, |packet| packet.close());
@@ -261,7 +262,7 @@ fn headers_of(kind: u8) -> usize {
     let mut out = blank(ROOM);
     let mut packet = Packet::new(&mut out);
     assert_eq!(packet.open(kind, 1, 2), 0);
-    packet.state.at
+    packet.at()
 }
 
 /// Open into every output that is too short.

@@ -3,7 +3,7 @@
 use crate::canon::written;
 use crate::given::{Given, Layer};
 use crate::library;
-use crate::pens::{Alone, Packet};
+use crate::pens::{Alone, At, Packet};
 use crate::plant;
 use citp::protocol::Header;
 
@@ -75,7 +75,7 @@ fn compare_packet<T: Given>(value: &T, due: &[u8]) -> Result<(), &'static str> {
     let mut packet = Packet::new(&mut out);
     let taken =
         packet.open(T::KIND, REQUEST_INDEX, CONTENT_HINT) == 0 && value.give(&mut packet) == 0 && packet.close() == 0;
-    let at = packet.state.at;
+    let at = packet.at();
     if taken && at == due.len() && holds(&out, 0, due) {
         Ok(())
     } else {
@@ -88,7 +88,7 @@ fn compare_packet_short<T: Given>(value: &T, due: &[u8]) -> Result<(), &'static 
     let mut packet = Packet::new(&mut out);
     let opened = packet.open(T::KIND, REQUEST_INDEX, CONTENT_HINT);
     let number = if due.len() > T::Layer::LENGTH { value.give(&mut packet) } else { opened };
-    let stands = packet.state.at;
+    let stands = packet.at();
     // the size field is 0 until close
     let mut due = due.to_vec();
     due[8..12].fill(0);

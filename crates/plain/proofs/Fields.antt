@@ -1,4 +1,4 @@
--- The state's plain fields: none is lost, and those that are no turn refuse every call.
+-- The state's plain fields: those that are no turn refuse every call.
 use Prim.Native.Nat.{ℕ, _<_, _≤_}
 use mathlib.Core.Path.{_≡_, refl, sym}
 use mathlib.Core.Logic.{inl, inr}
@@ -8,11 +8,11 @@ use borrow.Author.Tests.{ne-eqb}
 use mathlib.Core.Bool.{Bool, true, false, _&&_}
 use Rattle.protocol.specs.Kind.{Kind}
 use Rattle.writing.specs.Call.{Call, opens, give, closes, Part, body, laserFeedList, feedName, laserFeedFrame, laserPoint, fixtureList, fixture, identifier, fixtureData}
-use Rattle.writing.specs.Writer.{idle, bodyDue, itemsDue, partsDue, Turn, isFlat, partInTurn, inTurn, apply}
-use Rattle.plain.specs.State.{kindAt, nowhere, turnOf, turnAt, flatTurn}
-use Rattle.plain.specs.Claims.{Unmeant, Refuses, Exact}
+use Rattle.writing.specs.Writer.{isFlat, partInTurn, inTurn, apply}
+use Rattle.plain.specs.State.{kindAt, nowhere, turnOf, turnAt}
+use Rattle.plain.specs.Claims.{Unmeant, Refuses}
 use Rattle.plain.specs.declared.state.WriterState.{WriterState}
-use Rattle.plain.proofs.Calls.{kind-found, no-kind}
+use Rattle.plain.proofs.Calls.{no-kind}
 
 and-false : (b : Bool) → (b && false) ≡ false
 and-false true = refl
@@ -55,19 +55,3 @@ module _ (w : WriterState) where
 pub refuses : Refuses
 unfolding apply
 refuses c w o u = rw (no-turn w u, never c)
-
-same-turn : (t : Turn) (at : ℕ) → turnAt (flatTurn t at) ≡ t
-unfolding turnAt
-same-turn idle at = refl
-same-turn (bodyDue k) at = rw (kind-found k)
-same-turn (itemsDue k n) at = rw (kind-found k)
-same-turn (partsDue n i) at = refl
-
-same-place : (t : Turn) (at : ℕ) → flatTurn t at .at ≡ at
-same-place idle at = refl
-same-place (bodyDue k) at = refl
-same-place (itemsDue k n) at = refl
-same-place (partsDue n i) at = refl
-
-pub exact : Exact
-exact w = rw (same-turn (w .turn) (w .at), same-place (w .turn) (w .at))

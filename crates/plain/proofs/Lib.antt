@@ -1,3 +1,4 @@
 pub mod Told
 pub mod Calls
 pub mod Fields
+pub mod Widths

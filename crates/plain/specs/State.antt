@@ -1,5 +1,5 @@
 -- The packet writer's state as plain fields, and what its calls answer.
-use Prim.Native.Nat.{ℕ, zero, suc}
+use Prim.Native.Nat.{ℕ, zero, suc, _%_}
 use mathlib.Core.List.{List, [], _∷_, _++_}
 use mathlib.Core.Option.{Option, none, some}
 use lib.Dec.{eqb}
@@ -46,15 +46,16 @@ turnAt w = pick (eqb (w .turn) 0) idle (pick (eqb (w .turn) 3) (partsDue (w .ite
 abbrev pub stateIs : WriterState → Writer
 stateIs w = record { turn = turnAt w; at = w .at }
 
--- plain fields of a state
+-- plain fields of a turn, counts to the width of their fields
 abbrev pub flatTurn : Turn → (at : ℕ) → WriterState
 flatTurn idle at = record { turn = 0; kind = 0; items = 0; identifiers = 0; at = at }
 flatTurn (bodyDue k) at = record { turn = 1; kind = index k; items = 0; identifiers = 0; at = at }
-flatTurn (itemsDue k n) at = record { turn = 2; kind = index k; items = n; identifiers = 0; at = at }
-flatTurn (partsDue n i) at = record { turn = 3; kind = index FixtureList; items = n; identifiers = i; at = at }
+flatTurn (itemsDue k n) at = record { turn = 2; kind = index k; items = n % 65536; identifiers = 0; at = at }
+flatTurn (partsDue n i) at = record { turn = 3; kind = index FixtureList; items = n % 65536; identifiers = i % 256; at = at }
 
+-- and of a state, whose place is a u32
 abbrev pub flatState : Writer → WriterState
-flatState w = flatTurn (w .turn) (w .at)
+flatState w = flatTurn (w .turn) (w .at % 4294967296)
 
 -- ---- a call
 

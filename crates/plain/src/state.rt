@@ -1,4 +1,4 @@
-// The packet writer's state as plain fields: any values are a state.
+// The packet writer's state as plain fields, as narrow as what is counted: any values are a state.
 ghost use mathlib.Core.Path.{_≡_};
 ghost use Rattle.turns.specs.Says.{turnIs};
 ghost use Rattle.writer.specs.Says.{stateOf};
@@ -14,9 +14,9 @@ pub struct WriterState {
     pub turn: u8,
     pub kind: u8,
     // items or fixtures due
-    pub items: usize,
-    pub identifiers: usize,
-    pub at: usize,
+    pub items: u16,
+    pub identifiers: u8,
+    pub at: u32,
 }
 
 #[repr(C)]
@@ -67,7 +67,7 @@ impl WriterState {
             return Turn::Idle;
         }
         if self.turn == 3 {
-            return Turn::Parts(self.items, self.identifiers);
+            return Turn::Parts(self.items as usize, self.identifiers as usize);
         }
         let KindFound::Known(kind) = kind_of(self.kind) else {
             return Turn::Items(Kind::EnterShow, 1);
@@ -76,7 +76,7 @@ impl WriterState {
             return Turn::Body(kind);
         }
         if self.turn == 2 {
-            return Turn::Items(kind, self.items);
+            return Turn::Items(kind, self.items as usize);
         }
         Turn::Items(Kind::EnterShow, 1)
     }
@@ -86,7 +86,7 @@ impl WriterState {
     {
         Writer {
             turn: self.turn_of(),
-            at: self.at,
+            at: self.at as usize,
         }
     }
 
@@ -94,7 +94,7 @@ impl WriterState {
         ensures { λ r. ⌜ r ≡ flatState (stateOf w) ⌝ }
     {
         let turn = w.turn;
-        let at = w.at;
+        let at = (w.at % 4294967296) as u32;
         match turn {
             Turn::Idle => WriterState {
                 turn: 0,
@@ -113,15 +113,15 @@ impl WriterState {
             Turn::Items(kind, items) => WriterState {
                 turn: 2,
                 kind: kind.figures().index,
-                items,
+                items: (items % 65536) as u16,
                 identifiers: 0,
                 at,
             },
             Turn::Parts(items, identifiers) => WriterState {
                 turn: 3,
                 kind: 1,
-                items,
-                identifiers,
+                items: (items % 65536) as u16,
+                identifiers: (identifiers % 256) as u8,
                 at,
             },
         }
