@@ -1,4 +1,4 @@
-/* CITP packets: reading, walking a stream, writing. For the archive libbridge.a (x86-64 Linux).
+/* CITP packets: reading, walking a stream, writing. For the archive libcitp.a (x86-64 Linux).
  *
  * Every function ends, checks its own input and keeps no state. What each answers is proved equal to a definition, for
  * every input that C can pass.

@@ -1,4 +1,4 @@
-//! CITP packets for Rust: the functions of include/citp.h with slices, over the archive libbridge.a (x86-64 Linux).
+//! CITP packets for Rust: the functions of include/citp.h with slices, over the archive libcitp.a (x86-64 Linux).
 //! What each answers, the numbers of refusals, and what ranges and cursors mean is said there. Every function ends, checks its own
 //! input and keeps no state, so all of them are safe.
 
@@ -322,7 +322,7 @@ macro_rules! function {
     (@ $name:ident [$($safe:tt)*] [$($raw:tt)*] [$($pass:tt)*] () $answer:ty) => {
         #[allow(clippy::too_many_arguments)]
         pub fn $name($($safe)*) -> $answer {
-            #[link(name = "bridge", kind = "static")]
+            #[link(name = "citp", kind = "static")]
             extern "C" {
                 #[link_name = concat!("citp_", stringify!($name))]
                 fn call($($raw)*) -> $answer;

@@ -186,13 +186,19 @@ pub fn round(shape: &[Part], size: Size, random: &mut Random, visit: &mut dyn Fn
         damage(&mut copy, random);
         visit(&copy);
     };
-    if n <= 2_000 {
+    if size != Size::Long {
         (0..n).for_each(|cut| pair(cut, random));
     } else {
         (0..40).for_each(|k| pair(k, random));
         (1..41).for_each(|k| pair(n - k, random));
         (0..20).for_each(|_| pair(random.below(n), random));
     }
+}
+
+/// A long body and every cut of it.
+pub fn cuts(shape: &[Part], random: &mut Random, visit: &mut dyn FnMut(&[u8])) {
+    let body = good(shape, Size::Long, random);
+    (0..=body.len()).for_each(|n| visit(&body[..n]));
 }
 
 /// Every body of up to two bytes, then all of three to six bytes over the alphabet.

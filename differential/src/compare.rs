@@ -139,6 +139,12 @@ pub fn short<T: Compared>(tally: &mut Tally) {
     bodies::short(&T::ALPHABET, &mut |body_| body::<T>(body_, &mut scratch, tally));
 }
 
+/// A long body and every cut of it.
+pub fn cuts<T: Compared>(random: &mut Random, tally: &mut Tally) {
+    let mut scratch = Scratch::default();
+    bodies::cuts(T::SHAPE, random, &mut |body_| body::<T>(body_, &mut scratch, tally));
+}
+
 /// Rounds of good, cut and damaged bodies, at least so many, the first round of a long body.
 pub fn rounds<T: Compared>(random: &mut Random, least: u64, tally: &mut Tally) {
     let mut scratch = Scratch::default();

@@ -8,20 +8,24 @@ use citp::protocol::{caex, finf, fptc, fsel, pinf, sdmx, Header};
 pub struct Kind {
     pub name: &'static str,
     pub short: fn(&mut Tally),
+    pub cuts: fn(&mut Random, &mut Tally),
     pub rounds: fn(&mut Random, u64, &mut Tally),
     pub shrink: fn(&[u8], &str) -> Vec<u8>,
     pub answers: fn(&[u8]) -> String,
     pub records: fn(u8) -> Vec<Vec<u8>>,
+    pub packets: fn() -> Vec<Vec<u8>>,
 }
 
 const fn kind<T: Compared>() -> Kind {
     Kind {
         name: T::NAME,
         short: compare::short::<T>,
+        cuts: compare::cuts::<T>,
         rounds: compare::rounds::<T>,
         shrink: compare::shrink::<T>,
         answers: compare::answers::<T>,
         records: sample::records::<T>,
+        packets: sample::packets::<T>,
     }
 }
 

@@ -22,7 +22,7 @@ mod writing;
 
 use std::process::ExitCode;
 
-const USAGE: &str = "differential run [MILLIONS OF BODIES] | plant FAULT [MILLIONS] | sample | departures";
+const USAGE: &str = "differential run [MILLIONS OF BODIES] | plant FAULT [MILLIONS] | sample | packets | departures";
 const SHORT_RUN: u64 = 12;
 
 fn run(millions: Option<&&str>) -> ExitCode {
@@ -48,6 +48,10 @@ fn main() -> ExitCode {
         }
         ["sample"] => {
             sample::write(&mut std::io::stdout().lock()).expect("standard output");
+            ExitCode::SUCCESS
+        }
+        ["packets"] => {
+            sample::write_packets(&mut std::io::stdout().lock()).expect("standard output");
             ExitCode::SUCCESS
         }
         ["departures"] => {

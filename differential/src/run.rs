@@ -11,19 +11,25 @@ use std::time::Instant;
 pub const SEED: u64 = 0x9E37_79B9_7F4A_7C15;
 /// Bodies of a job of rounds.
 const JOB: u64 = 200_000;
+/// From so many bodies on every cut of a long body of each kind is among them, which takes minutes.
+const LONG_RUN: u64 = 100_000_000;
 /// Bodies of up to two bytes, and of three to six over seven bytes.
 const SHORT_BODIES: u64 = 1 + 256 + 65_536 + 343 + 2_401 + 16_807 + 117_649;
 
 enum Job {
     Short(usize),
+    Cuts(usize),
     Rounds(usize, u64),
     Values(u64),
     Refusals,
 }
 
-/// The short bodies of every kind, then for each kind in turn as many rounds as so many bodies need.
+/// In a long run the cuts of a long body of every kind; the short bodies of every kind; then for each kind in turn as many rounds as so many bodies need.
 fn jobs(bodies: u64) -> Vec<Job> {
     let mut jobs = vec![Job::Refusals];
+    if bodies >= LONG_RUN {
+        jobs.extend((0..KINDS.len()).map(Job::Cuts));
+    }
     jobs.extend((0..KINDS.len()).map(Job::Short));
     let short = KINDS.len() as u64 * SHORT_BODIES;
     let rounds = bodies.saturating_sub(short).div_ceil(JOB * KINDS.len() as u64);
@@ -45,6 +51,7 @@ fn work(jobs: &[Job], next: &AtomicUsize, results: &Mutex<Results>) {
         let mut tally = Tally::default();
         match *job {
             Job::Short(kind) => (KINDS[kind].short)(&mut tally),
+            Job::Cuts(kind) => (KINDS[kind].cuts)(&mut Random::of(SEED, KINDS[kind].name, u64::MAX), &mut tally),
             Job::Rounds(kind, number) => {
                 (KINDS[kind].rounds)(&mut Random::of(SEED, KINDS[kind].name, number), JOB, &mut tally)
             }
@@ -53,7 +60,7 @@ fn work(jobs: &[Job], next: &AtomicUsize, results: &Mutex<Results>) {
         }
         let mut results = results.lock().expect("no thread panics with the lock");
         match *job {
-            Job::Short(kind) | Job::Rounds(kind, _) => results.kinds[kind].add(tally),
+            Job::Short(kind) | Job::Cuts(kind) | Job::Rounds(kind, _) => results.kinds[kind].add(tally),
             Job::Values(_) => results.values.add(tally),
             Job::Refusals => results.refusals.add(tally),
         }

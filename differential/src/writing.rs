@@ -27,6 +27,9 @@ pub fn holds(out: &[u8], at: usize, bytes: &[u8]) -> bool {
 /// A kind whose values are written and compared.
 pub trait Writes {
     fn compare_writing(&self) -> Result<(), &'static str>;
+
+    /// The Rust's packet, none of the base header.
+    fn packet(&self) -> Option<Vec<u8>>;
 }
 
 /// The kinds whose `size_bytes` is not the length written (docs/DIFFERENCES.md 18, 19).
@@ -138,6 +141,10 @@ impl<T: Given> Writes for T {
         compare_walk::<T>(&packet)?;
         compare_packet_short(self, &packet)
     }
+
+    fn packet(&self) -> Option<Vec<u8>> {
+        Some(self.message(written(self).len(), REQUEST_INDEX, CONTENT_HINT))
+    }
 }
 
 impl Writes for Header {
@@ -169,5 +176,9 @@ impl Writes for Header {
             return Err("header into an output one byte short");
         }
         Ok(())
+    }
+
+    fn packet(&self) -> Option<Vec<u8>> {
+        None
     }
 }

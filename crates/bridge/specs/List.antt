@@ -3,13 +3,12 @@ use Prim.Native.Nat.{ℕ}
 use mathlib.Core.List.{List}
 use Rattle.format.specs.View.{View, Next, item, done, broken}
 use Rattle.format.specs.Copy.{Answer, took, denied}
+use Rattle.plain.specs.Numbers.{flatNumbers}
 use Rattle.protocol.specs.Kind.{channelLevelFormat, fixtureFormat, identifierFormat}
-use Rattle.fixture.specs.Says.{Numbers}
 use Rattle.bridge.specs.declared.list.U16Answer.{U16Answer}
 use Rattle.bridge.specs.declared.list.U32Answer.{U32Answer}
 use Rattle.bridge.specs.declared.list.ChannelLevelAnswer.{ChannelLevelAnswer}
 use Rattle.bridge.specs.declared.list.IdentifierAnswer.{IdentifierAnswer}
-use Rattle.bridge.specs.declared.list.FixtureNumbers.{FixtureNumbers}
 use Rattle.bridge.specs.declared.list.FixtureAnswer.{FixtureAnswer}
 use Rattle.bridge.specs.declared.list.CopyAnswer.{CopyAnswer}
 
@@ -48,11 +47,6 @@ identifier x at n = record { number = 0; given = 1; left = n; «identifier_type�
 
 abbrev pub flatIdentifier : Next (View identifierFormat) → IdentifierAnswer
 flatIdentifier = flatNext identifier noIdentifier
-
--- patched, universe, universe_channel, channel, and the floats by their bits
-abbrev pub flatNumbers : Numbers → FixtureNumbers
-flatNumbers (a, b, c, d, (px, (py, (pz, (ax, (ay, az)))))) =
-    record { patched = a; universe = b; «universe_channel» = c; channel = d; «position_x» = px; «position_y» = py; «position_z» = pz; «angle_x» = ax; «angle_y» = ay; «angle_z» = az }
 
 abbrev pub noFixture : ℕ → FixtureAnswer
 noFixture k = record {

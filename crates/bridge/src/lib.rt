@@ -1,7 +1,4 @@
-// The library for C and Rust: every function of include/citp.h, over numbers, slices of numbers and flat structs.
-pub mod body;
+// The functions of include/citp.h that read: bodies, lists, strings, and the walk. All functions for C and Rust are over numbers, slices of numbers and flat structs.
 pub mod list;
-pub mod packet;
 pub mod read;
-pub mod size;
 pub mod walk;

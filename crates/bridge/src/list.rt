@@ -4,16 +4,17 @@ ghost use Rattle.format.specs.Format.{number};
 ghost use Rattle.format.specs.View.{stepped, item};
 ghost use Rattle.format.specs.Copy.{copyCString, copyUcs2};
 ghost use Rattle.protocol.specs.Kind.{channelLevelFormat, fixtureFormat, identifierFormat};
-ghost use Rattle.fixture.specs.Says.{dataNumbers, fixtureView};
+ghost use Rattle.fixture.specs.Says.{fixtureView};
 ghost use Rattle.bridge.specs.List.{noU16, noU32, noChannelLevel, noIdentifier, noFixture, flatU16, flatU32, flatChannelLevel, flatIdentifier};
-ghost use Rattle.bridge.specs.List.{flatNumbers, flatFixture, flatCopy};
+ghost use Rattle.bridge.specs.List.{flatFixture, flatCopy};
 use fixture::Fixture;
-use fixture::FixtureData;
 use fixture::Fixtures;
 use fixture::FixturesNext;
 use fixture::Identifiers;
 use fixture::IdentifiersNext;
-use floats::pattern_of;
+use plain::numbers::FixtureNumbers;
+use plain::numbers::no_numbers;
+use plain::numbers::numbers;
 use sdmx::ChannelLevel;
 use sdmx::ChannelLevels;
 use sdmx::ChannelLevelsNext;
@@ -204,38 +205,6 @@ pub extern "C" fn citp_identifiers_next(body: &[u8], at: usize, left: u8) -> Ide
 
 // ---- fixtures
 
-// The numbers of a fixture's data, floats by their bits.
-#[repr(C)]
-pub struct FixtureNumbers {
-    pub patched: u8,
-    pub universe: u8,
-    pub universe_channel: u16,
-    pub channel: u16,
-    pub position_x: u32,
-    pub position_y: u32,
-    pub position_z: u32,
-    pub angle_x: u32,
-    pub angle_y: u32,
-    pub angle_z: u32,
-}
-
-fn numbers(x: FixtureData) -> FixtureNumbers
-    ensures { λ r. ⌜ r ≡ flatNumbers (dataNumbers x) ⌝ }
-{
-    FixtureNumbers {
-        patched: x.patched,
-        universe: x.universe,
-        universe_channel: x.universe_channel,
-        channel: x.channel,
-        position_x: pattern_of(x.position_x, x.bits.position_x),
-        position_y: pattern_of(x.position_y, x.bits.position_y),
-        position_z: pattern_of(x.position_z, x.bits.position_z),
-        angle_x: pattern_of(x.angle_x, x.bits.angle_x),
-        angle_y: pattern_of(x.angle_y, x.bits.angle_y),
-        angle_z: pattern_of(x.angle_z, x.bits.angle_z),
-    }
-}
-
 #[repr(C)]
 pub struct FixtureAnswer {
     pub number: u8,
@@ -260,23 +229,6 @@ pub struct FixtureAnswer {
     pub circuit_len: usize,
     pub note_start: usize,
     pub note_len: usize,
-}
-
-fn no_numbers() -> FixtureNumbers
-    ensures { λ r. ⌜ r ≡ flatNumbers (0, 0, 0, 0, (0, (0, (0, (0, (0, 0)))))) ⌝ }
-{
-    FixtureNumbers {
-        patched: 0,
-        universe: 0,
-        universe_channel: 0,
-        channel: 0,
-        position_x: 0,
-        position_y: 0,
-        position_z: 0,
-        angle_x: 0,
-        angle_y: 0,
-        angle_z: 0,
-    }
 }
 
 fn no_fixture(number: u8) -> FixtureAnswer

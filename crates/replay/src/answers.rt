@@ -1,6 +1,5 @@
-// The answer of each reader, compared with what the Rust read; a flat value is written again, too.
+// The answer of each reader, compared with what the Rust read.
 use super::compared::Compared;
-use super::writes;
 use caex::EnterShow;
 use caex::EnterShowRead;
 use caex::FixtureList;
@@ -72,7 +71,7 @@ pub(crate) fn enter_show(body: &[u8], due: &[u8]) -> Answer {
         EnterShowRead::Read(m, c) => {
             let x = taken(due, c);
             let x = x.ucs2(due, body, m.name);
-            read(x.and(writes::enter_show(m, body, c.at)))
+            read(x)
         }
         EnterShowRead::Refused(number) => refused(number),
     }
@@ -97,7 +96,7 @@ pub(crate) fn fixture_remove(body: &[u8], due: &[u8]) -> Answer {
             let x = taken(due, c);
             let x = x.u16(due, m.fixture_count());
             let x = x.u32_list(due, body, m.fixture_identifiers);
-            read(x.and(writes::fixture_remove(m, body, c.at)))
+            read(x)
         }
         FixtureRemoveRead::Refused(number) => refused(number),
     }
@@ -109,7 +108,7 @@ pub(crate) fn laser_feed_control(body: &[u8], due: &[u8]) -> Answer {
             let x = taken(due, c);
             let x = x.u8(due, m.feed_index);
             let x = x.u8(due, m.frame_rate);
-            read(x.and(writes::laser_feed_control(m, body, c.at)))
+            read(x)
         }
         LaserFeedControlRead::Refused(number) => refused(number),
     }
@@ -120,7 +119,7 @@ pub(crate) fn capa(body: &[u8], due: &[u8]) -> Answer {
         CapaRead::Read(m, c) => {
             let x = taken(due, c);
             let x = x.u16_list(due, body, m.capabilities);
-            read(x.and(writes::capa(m, body, c.at)))
+            read(x)
         }
         CapaRead::Refused(number) => refused(number),
     }
@@ -132,7 +131,7 @@ pub(crate) fn unam(body: &[u8], due: &[u8]) -> Answer {
             let x = taken(due, c);
             let x = x.u8(due, m.universe_index);
             let x = x.cstring(due, body, m.universe_name);
-            read(x.and(writes::unam(m, body, c.at)))
+            read(x)
         }
         UNamRead::Refused(number) => refused(number),
     }
@@ -146,7 +145,7 @@ pub(crate) fn chbk(body: &[u8], due: &[u8]) -> Answer {
             let x = x.u8(due, m.universe_index);
             let x = x.u16(due, m.first_channel);
             let x = x.block(due, body, m.channel_levels);
-            read(x.and(writes::chbk(m, body, c.at)))
+            read(x)
         }
         ChBkRead::Refused(number) => refused(number),
     }
@@ -168,7 +167,7 @@ pub(crate) fn sxus(body: &[u8], due: &[u8]) -> Answer {
             let x = taken(due, c);
             let x = x.u8(due, m.universe_index);
             let x = x.cstring(due, body, m.connection_string);
-            read(x.and(writes::sxus(m, body, c.at)))
+            read(x)
         }
         SxusRead::Refused(number) => refused(number),
     }
@@ -185,7 +184,7 @@ pub(crate) fn ptch(body: &[u8], due: &[u8]) -> Answer {
             let x = x.u16(due, m.channel_count);
             let x = x.cstring(due, body, m.fixture_make);
             let x = x.cstring(due, body, m.fixture_name);
-            read(x.and(writes::ptch(m, body, c.at)))
+            read(x)
         }
         PtchRead::Refused(number) => refused(number),
     }
@@ -196,7 +195,7 @@ pub(crate) fn uptc(body: &[u8], due: &[u8]) -> Answer {
         UPtcRead::Read(m, c) => {
             let x = taken(due, c);
             let x = x.u16_list(due, body, m.fixture_identifiers);
-            read(x.and(writes::uptc(m, body, c.at)))
+            read(x)
         }
         UPtcRead::Refused(number) => refused(number),
     }
@@ -207,7 +206,7 @@ pub(crate) fn sptc(body: &[u8], due: &[u8]) -> Answer {
         SPtcRead::Read(m, c) => {
             let x = taken(due, c);
             let x = x.u16_list(due, body, m.fixture_identifiers);
-            read(x.and(writes::sptc(m, body, c.at)))
+            read(x)
         }
         SPtcRead::Refused(number) => refused(number),
     }
@@ -220,7 +219,7 @@ pub(crate) fn sele(body: &[u8], due: &[u8]) -> Answer {
             let x = x.u8(due, m.complete);
             let x = x.u8(due, m.reserved);
             let x = x.u16_list(due, body, m.fixture_identifiers);
-            read(x.and(writes::sele(m, body, c.at)))
+            read(x)
         }
         SeleRead::Refused(number) => refused(number),
     }
@@ -231,7 +230,7 @@ pub(crate) fn dese(body: &[u8], due: &[u8]) -> Answer {
         DeSeRead::Read(m, c) => {
             let x = taken(due, c);
             let x = x.u16_list(due, body, m.fixture_identifiers);
-            read(x.and(writes::dese(m, body, c.at)))
+            read(x)
         }
         DeSeRead::Refused(number) => refused(number),
     }
@@ -242,7 +241,7 @@ pub(crate) fn sfra(body: &[u8], due: &[u8]) -> Answer {
         SFraRead::Read(m, c) => {
             let x = taken(due, c);
             let x = x.u16_list(due, body, m.fixture_identifiers);
-            read(x.and(writes::sfra(m, body, c.at)))
+            read(x)
         }
         SFraRead::Refused(number) => refused(number),
     }
@@ -256,7 +255,7 @@ pub(crate) fn fram(body: &[u8], due: &[u8]) -> Answer {
             let x = x.u8(due, m.frame_filter_count);
             let x = x.u8(due, m.frame_gobo_count);
             let x = x.cstring(due, body, m.frame_names);
-            read(x.and(writes::fram(m, body, c.at)))
+            read(x)
         }
         FramRead::Refused(number) => refused(number),
     }
@@ -267,7 +266,7 @@ pub(crate) fn pnam(body: &[u8], due: &[u8]) -> Answer {
         PNamRead::Read(m, c) => {
             let x = taken(due, c);
             let x = x.cstring(due, body, m.name);
-            read(x.and(writes::pnam(m, body, c.at)))
+            read(x)
         }
         PNamRead::Refused(number) => refused(number),
     }
@@ -281,7 +280,7 @@ pub(crate) fn ploc(body: &[u8], due: &[u8]) -> Answer {
             let x = x.cstring(due, body, m.kind);
             let x = x.cstring(due, body, m.name);
             let x = x.cstring(due, body, m.state);
-            read(x.and(writes::ploc(m, body, c.at)))
+            read(x)
         }
         PLocRead::Refused(number) => refused(number),
     }
@@ -299,7 +298,7 @@ pub(crate) fn base_header(body: &[u8], due: &[u8]) -> Answer {
             let x = x.u16(due, m.message_part_count);
             let x = x.u16(due, m.message_part);
             let x = x.u32(due, m.content_type);
-            read(x.and(writes::base_header(m, body, c.at)))
+            read(x)
         }
         HeaderRead::Refused(number) => refused(number),
     }

@@ -35,13 +35,6 @@ impl Compared {
         }
     }
 
-    pub(crate) fn and(self, same: bool) -> Compared {
-        if same {
-            return self;
-        }
-        self.different()
-    }
-
     // Whether all bytes were compared and were the same.
     pub(crate) fn is_whole(self, due: &[u8]) -> bool {
         if self.same {

@@ -2,7 +2,6 @@
 // bytes taken, or the number of the refusal, are compared with the Rust's answer.
 mod answers;
 mod compared;
-mod writes;
 
 ghost use Prim.Native.Nat.{_≤_};
 use answers::Answer;
@@ -148,34 +147,15 @@ fn decimal(key: &[u8], n: u64) {
     io::print_decimal(STDOUT_FILENO, n);
 }
 
-fn caex_or_sdmx_name(kind: usize) {
-    match kind {
-        0 => text(b"EnterShow"),
-        1 => text(b"FixtureList"),
-        2 => text(b"FixtureRemove"),
-        3 => text(b"LaserFeedControl"),
-        4 => text(b"Capa"),
-        5 => text(b"UNam"),
-        6 => text(b"ChBk"),
-        7 => text(b"ChLs"),
-        _ => text(b"Sxus"),
-    }
-}
-
+// The kinds' names, 16 bytes each.
 fn name(kind: usize) {
-    match kind {
-        9 => text(b"Ptch"),
-        10 => text(b"UPtc"),
-        11 => text(b"SPtc"),
-        12 => text(b"Sele"),
-        13 => text(b"DeSe"),
-        14 => text(b"SFra"),
-        15 => text(b"Fram"),
-        16 => text(b"PNam"),
-        17 => text(b"PLoc"),
-        18 => text(b"Header"),
-        _ => caex_or_sdmx_name(kind),
-    }
+    let place = Block {
+        start: 16 * (kind % KINDS),
+        len: 16,
+    };
+    text(place.bytes(
+        b"EnterShow       FixtureList     FixtureRemove   LaserFeedControlCapa            UNam            ChBk            ChLs            Sxus            Ptch            UPtc            SPtc            Sele            DeSe            SFra            Fram            PNam            PLoc            Header          ",
+    ));
 }
 
 fn line(read: u64, refused: u64, differ: u64) {
@@ -205,16 +185,28 @@ fn show_kinds(tally: Tally) {
     }
 }
 
+fn show_numbers(seven: u64, eight: u64, nine: u64, ten: u64) {
+    decimal(b"refused with 7: ", seven);
+    decimal(b", 8: ", eight);
+    decimal(b", 9: ", nine);
+    decimal(b", 10: ", ten);
+}
+
+fn show_totals(agree: u64, differ: u64) {
+    decimal(b"\n", agree);
+    decimal(b" agree, ", differ);
+    text(b" differ\n");
+}
+
 fn show(tally: Tally) {
     show_kinds(tally);
-    decimal(b"refused with 7: ", tally.numbers[7]);
-    decimal(b", 8: ", tally.numbers[8]);
-    decimal(b", 9: ", tally.numbers[9]);
-    decimal(b", 10: ", tally.numbers[10]);
-    let agree = std::num::wrapping_add_u64(total(tally.read), total(tally.refused));
-    decimal(b"\n", agree);
-    decimal(b" agree, ", total(tally.differ));
-    text(b" differ\n");
+    let n = tally.numbers;
+    show_numbers(n[7], n[8], n[9], n[10]);
+    let read = tally.read;
+    let refused = tally.refused;
+    let differ = tally.differ;
+    let agree = std::num::wrapping_add_u64(total(read), total(refused));
+    show_totals(agree, total(differ));
 }
 
 // ---- the sample
