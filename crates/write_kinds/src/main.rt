@@ -265,26 +265,38 @@ fn send_laser_feed_frame(out: &mut [u8]) {
 
 // ---- every kind
 
+fn send_sdmx_and_pinf(out: &mut [u8]) {
+    send_unam(out);
+    send_pnam(out);
+    send_ploc(out);
+    send_capa(out);
+    send_chbk(out);
+    send_chls(out);
+    send_sxus(out);
+}
+
+fn send_fptc_fsel_finf(out: &mut [u8]) {
+    send_ptch(out);
+    send_uptc(out);
+    send_sptc(out);
+    send_sele(out);
+    send_dese(out);
+    send_sfra(out);
+    send_fram(out);
+}
+
+fn send_caex(out: &mut [u8]) {
+    send_enter_show(out);
+    send_fixture_list(out);
+    send_fixture_remove(out);
+    send_laser_feed_control(out);
+    send_laser_feed_list(out);
+    send_laser_feed_frame(out);
+}
+
 fn main() {
     let mut out = io::buffer();
-    send_unam(&mut out);
-    send_pnam(&mut out);
-    send_ploc(&mut out);
-    send_capa(&mut out);
-    send_chbk(&mut out);
-    send_chls(&mut out);
-    send_sxus(&mut out);
-    send_ptch(&mut out);
-    send_uptc(&mut out);
-    send_sptc(&mut out);
-    send_sele(&mut out);
-    send_dese(&mut out);
-    send_sfra(&mut out);
-    send_fram(&mut out);
-    send_enter_show(&mut out);
-    send_fixture_list(&mut out);
-    send_fixture_remove(&mut out);
-    send_laser_feed_control(&mut out);
-    send_laser_feed_list(&mut out);
-    send_laser_feed_frame(&mut out);
+    send_sdmx_and_pinf(&mut out);
+    send_fptc_fsel_finf(&mut out);
+    send_caex(&mut out);
 }
