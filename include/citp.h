@@ -439,8 +439,8 @@ typedef struct {
 } citp_writer;
 
 typedef struct {
-    uint8_t number;
     citp_writer writer; /* the state for the next call */
+    uint8_t number;
 } citp_written;
 
 citp_writer citp_writer_new(void);

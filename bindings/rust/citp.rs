@@ -299,8 +299,8 @@ pub struct Writer {
 #[repr(C)]
 #[derive(Clone, Copy, Debug, Default, PartialEq, Eq)]
 pub struct Written {
-    pub number: u8,
     pub writer: Writer,
+    pub number: u8,
 }
 
 /// A function over slices from the one of the archive, to which a slice is a pointer and a length.

@@ -19,10 +19,11 @@ pub struct WriterState {
     pub at: u32,
 }
 
+// The state stands first: a caller hands it on as it came.
 #[repr(C)]
 pub struct WriterAnswer {
-    pub number: u8,
     pub writer: WriterState,
+    pub number: u8,
 }
 
 pub enum KindFound {
