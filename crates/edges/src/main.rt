@@ -169,7 +169,7 @@ fn size_edges(t: Tally) -> Tally {
     t.edge(b"message_size 16777217", Word::Stop, 4, got)
 }
 
-// 'Layer headers': 24 bytes with the base, FPTC 28.
+// 'Layer headers': 24 bytes with the base.
 fn header_edges(t: Tally) -> Tally {
     let got = read(b"CITP\x01\0\0\0\x14\0\0\0\x01\0\0\0SDMX");
     let t = t.edge(b"message_size 20, SDMX", Word::Refused, 6, got);
@@ -178,12 +178,16 @@ fn header_edges(t: Tally) -> Tally {
     let got = read(b"CITP\x01\0\0\0\x18\0\0\0\x01\0\0\0SDMXUNam");
     let t = t.edge(b"message_size 24, SDMX UNam", Word::Refused, 7, got);
     let got = read(b"CITP\x01\0\0\0\x18\0\0\0\x01\0\0\0SDMXUNaM");
-    let t = t.edge(
+    t.edge(
         b"message_size 24, SDMX, no kind",
         Word::UnknownKind,
         24,
         got,
-    );
+    )
+}
+
+// FPTC 28.
+fn fptc_header_edges(t: Tally) -> Tally {
     let got = read(b"CITP\x01\0\0\0\x1b\0\0\0\x01\0\0\0FPTCUPtc\0\0\0");
     let t = t.edge(b"message_size 27, FPTC", Word::Refused, 6, got);
     let got = read(b"CITP\x01\0\0\0\x1c\0\0\0\x01\0\0\0FPTCUPtc\0\0\0\0");
@@ -237,7 +241,7 @@ fn identifier(identifier_type: u8, data_size: u8, message_size: u8) -> Outcome {
     read_identifier(&s)
 }
 
-// Scope, 'Edges': Identifier 06 00 00: 10; 05 00 00: no data. 'Where a call stops': a type byte is tested as soon as it is read.
+// Scope, 'Edges': Identifier 06 00 00: 10; 05 00 00: no data.
 fn identifier_edges(t: Tally) -> Tally {
     let got = identifier(6, 0, 80);
     let t = t.edge(b"Identifier 06 00 00", Word::Refused, 10, got);
@@ -246,7 +250,11 @@ fn identifier_edges(t: Tally) -> Tally {
     let got = identifier(5, 0, 80);
     let t = t.edge(b"Identifier 05 00 00", Word::NoData, 5, got);
     let got = identifier(5, 1, 81);
-    let t = t.edge(b"Identifier 05 01 00 00", Word::Data, 1, got);
+    t.edge(b"Identifier 05 01 00 00", Word::Data, 1, got)
+}
+
+// 'Where a call stops': a type byte is tested as soon as it is read.
+fn identifier_end_edges(t: Tally) -> Tally {
     let got = identifier(6, 0, 42);
     let t = t.edge(b"Identifier 06, body ends", Word::Refused, 10, got);
     let got = identifier(5, 0, 42);
@@ -355,7 +363,9 @@ fn main() {
     let t = Tally { ok: 0, wrong: 0 };
     let t = size_edges(t);
     let t = header_edges(t);
+    let t = fptc_header_edges(t);
     let t = identifier_edges(t);
+    let t = identifier_end_edges(t);
     let t = data_edges(t);
     let t = capa_edges(t);
     let t = room_edges(t);
