@@ -4,7 +4,7 @@ use caex::LaserPoint;
 use fixture::FixtureData;
 use fixture::FloatBits;
 use fixture::IdentifierType;
-use floats::f32_of;
+use fixture::Patch;
 use libc::STDOUT_FILENO;
 use sdmx::ChannelLevel;
 use turns::Kind;
@@ -138,28 +138,6 @@ fn send_enter_show(out: &mut [u8]) {
     send(out, w);
 }
 
-fn data(
-    patched: u8,
-    universe: u8,
-    universe_channel: u16,
-    channel: u16,
-    bits: FloatBits,
-) -> FixtureData {
-    FixtureData {
-        patched,
-        universe,
-        universe_channel,
-        channel,
-        position_x: f32_of(bits.position_x),
-        position_y: f32_of(bits.position_y),
-        position_z: f32_of(bits.position_z),
-        angle_x: f32_of(bits.angle_x),
-        angle_y: f32_of(bits.angle_y),
-        angle_z: f32_of(bits.angle_z),
-        bits,
-    }
-}
-
 fn first_data() -> FixtureData {
     let bits = FloatBits {
         position_x: 0x3F800000,
@@ -169,7 +147,12 @@ fn first_data() -> FixtureData {
         angle_y: 0x80000000,
         angle_z: 0x42B40000,
     };
-    data(1, 2, 100, 42, bits)
+    let patch = Patch {
+        patched: 1,
+        universe: 2,
+        universe_channel: 100,
+    };
+    FixtureData::from_bits(patch, 42, bits)
 }
 
 fn second_data() -> FixtureData {
@@ -181,7 +164,12 @@ fn second_data() -> FixtureData {
         angle_y: 0xFFFFFFFF,
         angle_z: 0x7F800001,
     };
-    data(0, 0, 0, 0, bits)
+    let patch = Patch {
+        patched: 0,
+        universe: 0,
+        universe_channel: 0,
+    };
+    FixtureData::from_bits(patch, 0, bits)
 }
 
 // Clay Paky, Sharpy, Std
