@@ -186,7 +186,7 @@ pub fn round(shape: &[Part], size: Size, random: &mut Random, visit: &mut dyn Fn
         damage(&mut copy, random);
         visit(&copy);
     };
-    if size != Size::Long {
+    if size != Size::Long || n <= 2_000 {
         (0..n).for_each(|cut| pair(cut, random));
     } else {
         (0..40).for_each(|k| pair(k, random));
