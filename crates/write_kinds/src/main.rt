@@ -10,10 +10,6 @@ use sdmx::ChannelLevel;
 use turns::Kind;
 use writer::Writer;
 
-fn opened(out: &mut [u8], kind: Kind) -> Writer {
-    Writer::new().open(out, kind, 0, 0).writer
-}
-
 // Closes the packet and writes it out; a refused call leaves it unfinished, and nothing is written.
 fn send(out: &mut [u8], w: Writer) {
     let closed = w.close(out);
@@ -26,39 +22,17 @@ fn send(out: &mut [u8], w: Writer) {
     }
 }
 
-// ---- PINF
+// ---- flat bodies, by their kind
 
-fn send_pnam(out: &mut [u8]) {
-    let w = Writer::new().open(out, Kind::PNam, 7, 0).writer;
-    let w = w.pnam(out, b"Rack 1").writer;
-    send(out, w);
-}
-
-fn send_ploc(out: &mut [u8]) {
-    let w = opened(out, Kind::PLoc);
-    let w = w.ploc(out, 4811, b"LightingConsole", b"Desk", b"Running")
-        .writer;
-    send(out, w);
-}
-
-// ---- SDMX
-
-fn send_capa(out: &mut [u8]) {
-    let w = opened(out, Kind::Capa);
-    let w = w.capa(out, &[1, 2, 3, 101, 102, 65535]).writer;
-    send(out, w);
-}
-
-fn send_unam(out: &mut [u8]) {
-    let w = opened(out, Kind::UNam);
-    let w = w.unam(out, 3, b"A").writer;
-    send(out, w);
-}
-
-fn send_chbk(out: &mut [u8]) {
-    let w = opened(out, Kind::ChBk);
-    let w = w.chbk(out, 1, 2, 300, &[0, 1, 127, 128, 255]).writer;
-    send(out, w);
+fn give_pinf(out: &mut [u8], w: Writer, kind: Kind) -> Writer {
+    match kind {
+        Kind::PNam => w.pnam(out, b"Rack 1").writer,
+        Kind::PLoc => {
+            w.ploc(out, 4811, b"LightingConsole", b"Desk", b"Running")
+                .writer
+        }
+        _ => w,
+    }
 }
 
 fn level(universe_index: u8, channel: u16, channel_level: u8) -> ChannelLevel {
@@ -69,74 +43,61 @@ fn level(universe_index: u8, channel: u16, channel_level: u8) -> ChannelLevel {
     }
 }
 
-fn send_chls(out: &mut [u8]) {
+fn give_chls(out: &mut [u8], w: Writer) -> Writer {
     let mut levels = [level(0, 0, 0); 16];
     levels[1] = level(1, 511, 255);
     levels[2] = level(255, 65535, 17);
-    let w = opened(out, Kind::ChLs);
-    let w = w.chls_first(out, levels, 3).writer;
+    w.chls_first(out, levels, 3).writer
+}
+
+fn give_sdmx(out: &mut [u8], w: Writer, kind: Kind) -> Writer {
+    match kind {
+        Kind::Capa => w.capa(out, &[1, 2, 3, 101, 102, 65535]).writer,
+        Kind::UNam => w.unam(out, 3, b"A").writer,
+        Kind::ChBk => w.chbk(out, 1, 2, 300, &[0, 1, 127, 128, 255]).writer,
+        Kind::ChLs => give_chls(out, w),
+        Kind::Sxus => w.sxus(out, 4, b"ArtNet/0/0/1").writer,
+        _ => give_pinf(out, w, kind),
+    }
+}
+
+fn give_fptc(out: &mut [u8], w: Writer, kind: Kind) -> Writer {
+    match kind {
+        Kind::Ptch => w.ptch(out, 9, 1, 0, 20, 12, b"Robe", b"Robin").writer,
+        Kind::UPtc => w.uptc(out, &[9, 256, 65535]).writer,
+        Kind::SPtc => w.sptc(out, &[10]).writer,
+        _ => give_sdmx(out, w, kind),
+    }
+}
+
+fn give_fsel_or_finf(out: &mut [u8], w: Writer, kind: Kind) -> Writer {
+    match kind {
+        Kind::Sele => w.sele(out, 1, 0, &[1, 2, 515]).writer,
+        Kind::DeSe => w.dese(out, &[3, 4]).writer,
+        Kind::SFra => w.sfra(out, &[77, 78, 79, 80]).writer,
+        Kind::Fram => w.fram(out, 77, 2, 1, b"Red\nBlue\nStar").writer,
+        _ => give_fptc(out, w, kind),
+    }
+}
+
+fn give(out: &mut [u8], w: Writer, kind: Kind) -> Writer {
+    match kind {
+        Kind::EnterShow => w.enter_show(out, &[256, 32, 115, 104, 111, 119]).writer,
+        Kind::FixtureRemove => w.fixture_remove(out, &[5, 65536, 4294967295]).writer,
+        Kind::LaserFeedControl => w.laser_feed_control(out, 1, 30).writer,
+        _ => give_fsel_or_finf(out, w, kind),
+    }
+}
+
+fn send_flat(out: &mut [u8], kind: Kind, request_index: u16, content_hint: u32) {
+    let w = Writer::new()
+        .open(out, kind, request_index, content_hint)
+        .writer;
+    let w = give(out, w, kind);
     send(out, w);
 }
 
-fn send_sxus(out: &mut [u8]) {
-    let w = opened(out, Kind::Sxus);
-    let w = w.sxus(out, 4, b"ArtNet/0/0/1").writer;
-    send(out, w);
-}
-
-// ---- FPTC
-
-fn send_ptch(out: &mut [u8]) {
-    let w = Writer::new().open(out, Kind::Ptch, 0, 1).writer;
-    let w = w.ptch(out, 9, 1, 0, 20, 12, b"Robe", b"Robin").writer;
-    send(out, w);
-}
-
-fn send_uptc(out: &mut [u8]) {
-    let w = opened(out, Kind::UPtc);
-    let w = w.uptc(out, &[9, 256, 65535]).writer;
-    send(out, w);
-}
-
-fn send_sptc(out: &mut [u8]) {
-    let w = Writer::new().open(out, Kind::SPtc, 0, 4294967295).writer;
-    let w = w.sptc(out, &[10]).writer;
-    send(out, w);
-}
-
-// ---- FSEL, FINF
-
-fn send_sele(out: &mut [u8]) {
-    let w = opened(out, Kind::Sele);
-    let w = w.sele(out, 1, 0, &[1, 2, 515]).writer;
-    send(out, w);
-}
-
-fn send_dese(out: &mut [u8]) {
-    let w = opened(out, Kind::DeSe);
-    let w = w.dese(out, &[3, 4]).writer;
-    send(out, w);
-}
-
-fn send_sfra(out: &mut [u8]) {
-    let w = opened(out, Kind::SFra);
-    let w = w.sfra(out, &[77, 78, 79, 80]).writer;
-    send(out, w);
-}
-
-fn send_fram(out: &mut [u8]) {
-    let w = opened(out, Kind::Fram);
-    let w = w.fram(out, 77, 2, 1, b"Red\nBlue\nStar").writer;
-    send(out, w);
-}
-
-// ---- CAEX
-
-fn send_enter_show(out: &mut [u8]) {
-    let w = opened(out, Kind::EnterShow);
-    let w = w.enter_show(out, &[256, 32, 115, 104, 111, 119]).writer;
-    send(out, w);
-}
+// ---- lists
 
 fn first_data() -> FixtureData {
     let bits = FloatBits {
@@ -217,20 +178,8 @@ fn send_fixture_list(out: &mut [u8]) {
     send(out, w);
 }
 
-fn send_fixture_remove(out: &mut [u8]) {
-    let w = opened(out, Kind::FixtureRemove);
-    let w = w.fixture_remove(out, &[5, 65536, 4294967295]).writer;
-    send(out, w);
-}
-
-fn send_laser_feed_control(out: &mut [u8]) {
-    let w = opened(out, Kind::LaserFeedControl);
-    let w = w.laser_feed_control(out, 1, 30).writer;
-    send(out, w);
-}
-
 fn send_laser_feed_list(out: &mut [u8]) {
-    let w = opened(out, Kind::LaserFeedList);
+    let w = Writer::new().open(out, Kind::LaserFeedList, 0, 0).writer;
     let w = w.laser_feed_list_head(out, 1, 2).writer;
     // Left, Right
     let w = w.feed_name(out, &[76, 101, 102, 116]).writer;
@@ -239,7 +188,7 @@ fn send_laser_feed_list(out: &mut [u8]) {
 }
 
 fn send_laser_feed_frame(out: &mut [u8]) {
-    let w = opened(out, Kind::LaserFeedFrame);
+    let w = Writer::new().open(out, Kind::LaserFeedFrame, 0, 0).writer;
     let w = w.laser_feed_frame_head(out, 1, 0, 5, 1).writer;
     let point = LaserPoint {
         x_low_byte: 1,
@@ -253,31 +202,33 @@ fn send_laser_feed_frame(out: &mut [u8]) {
 
 // ---- every kind
 
+// ---- one of each
+
 fn send_sdmx_and_pinf(out: &mut [u8]) {
-    send_unam(out);
-    send_pnam(out);
-    send_ploc(out);
-    send_capa(out);
-    send_chbk(out);
-    send_chls(out);
-    send_sxus(out);
+    send_flat(out, Kind::UNam, 0, 0);
+    send_flat(out, Kind::PNam, 7, 0);
+    send_flat(out, Kind::PLoc, 0, 0);
+    send_flat(out, Kind::Capa, 0, 0);
+    send_flat(out, Kind::ChBk, 0, 0);
+    send_flat(out, Kind::ChLs, 0, 0);
+    send_flat(out, Kind::Sxus, 0, 0);
 }
 
 fn send_fptc_fsel_finf(out: &mut [u8]) {
-    send_ptch(out);
-    send_uptc(out);
-    send_sptc(out);
-    send_sele(out);
-    send_dese(out);
-    send_sfra(out);
-    send_fram(out);
+    send_flat(out, Kind::Ptch, 0, 1);
+    send_flat(out, Kind::UPtc, 0, 0);
+    send_flat(out, Kind::SPtc, 0, 4294967295);
+    send_flat(out, Kind::Sele, 0, 0);
+    send_flat(out, Kind::DeSe, 0, 0);
+    send_flat(out, Kind::SFra, 0, 0);
+    send_flat(out, Kind::Fram, 0, 0);
 }
 
 fn send_caex(out: &mut [u8]) {
-    send_enter_show(out);
+    send_flat(out, Kind::EnterShow, 0, 0);
     send_fixture_list(out);
-    send_fixture_remove(out);
-    send_laser_feed_control(out);
+    send_flat(out, Kind::FixtureRemove, 0, 0);
+    send_flat(out, Kind::LaserFeedControl, 0, 0);
     send_laser_feed_list(out);
     send_laser_feed_frame(out);
 }
