@@ -278,7 +278,7 @@ fn packet_start(h: Header, left: usize) -> u8
         return 4;
     }
     if LIMIT < size {
-        return 4;
+        return 4; // above the limit
     }
     if left < size {
         return 5;

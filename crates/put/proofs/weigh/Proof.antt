@@ -4,6 +4,9 @@ use Rattle.put.proofs.Weighing.{weigh-capped}
 use Rattle.put.proofs.weigh.Statement.{statement}
 use Rattle.put.proofs.weigh.Tie as tie
 
+returns : tie.Need-returns
+returns c = search needs
+
 returns-3 : tie.Need-returns-3
 returns-3 c = weigh-capped _ _ _ _ _ (simp (c .before .before .before .if1 .left, c .before .before .if2 .left, lt-ltb _ _ (c .if3 .taken))) (c .before .more .ensures)
 
@@ -22,4 +25,4 @@ returns-5 c =
     (b .before .more .ensures)
 
 pub weigh-spec : {M : Type 1} → statement M
-weigh-spec = tie.close (tie.spec (λ c. search needs) (λ c. search needs) (λ c κs. tt) returns-3 returns-4 returns-5)
+weigh-spec = tie.close (tie.spec returns (λ c. search needs) (λ c κs. tt) returns-3 returns-4 returns-5)
