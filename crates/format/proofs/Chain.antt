@@ -1,6 +1,6 @@
 -- A body that is read field by field: what is known after some of its fields, and what is left to read.
 use Prim.Native.Nat.{ℕ, zero, suc}
-use mathlib.Core.Path.{_≡_, refl, sym, ap, _∙_}
+use mathlib.Core.Path.{_≡_, refl, sym, ap, subst, _∙_}
 use mathlib.Core.List.{List}
 use Rattle.format.specs.Format.{Format, number, code, cstring, ucs2, list, _&_}
 use Rattle.format.specs.View.{View, Seen, seen, missed, view}
@@ -43,6 +43,15 @@ step {whole} {f} {g} {at} l {a} {e} h = record {
   from = l .from;
   make = λ b. l .make (a, b);
   reads = step-reads whole f g at l a e h;
+}
+
+-- the cursor by another name
+abbrev pub stands : {whole rest : Format} {at e : ℕ} → at ≡ e → Left whole rest at → Left whole rest e
+stands {whole} {rest} p l = record {
+  body = l .body;
+  from = l .from;
+  make = l .make;
+  reads = subst (λ k. view whole (l .body) (l .from) ≡ after (view rest (l .body) k) (λ b e. seen (l .make b) e)) p (l .reads);
 }
 
 -- it is not

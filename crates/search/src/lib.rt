@@ -255,21 +255,6 @@ fn pass_units(s: &[u8], at: usize, from: usize, count: usize) -> usize
     n
 }
 
-// The first zero of the four units from the n-th on, or n + 4.
-fn first_of_4_units(s: &[u8], at: usize, n: usize) -> usize
-    requires { do ⌜ at + 2 * n + 8 ≤ (← ⟦s.len()⟧) ⌝ }
-    ensures { λ r. ⌜ First (unitOf (now (s .entry)) at) n (n + 4) r ⌝ }
-{
-    let mut j = 0;
-    while j < 4 {
-        if unit_at(s, at, n + j) == 0 {
-            return n + j;
-        }
-        j += 1;
-    }
-    n + 4
-}
-
 // The first zero of the units from `from` up to `stop`, or `stop`.
 fn first_unit_one_by_one(s: &[u8], at: usize, from: usize, stop: usize) -> usize
     requires { do ⌜ (from ≤ stop) × (at + 2 * stop ≤ (← ⟦s.len()⟧)) ⌝ }
@@ -285,20 +270,29 @@ fn first_unit_one_by_one(s: &[u8], at: usize, from: usize, stop: usize) -> usize
     n
 }
 
-// The same by fours.
-fn first_unit_by_fours(s: &[u8], at: usize, from: usize, stop: usize) -> usize
-    requires { do ⌜ (from ≤ stop) × (at + 2 * stop ≤ (← ⟦s.len()⟧)) ⌝ }
-    ensures { λ r. ⌜ First (unitOf (now (s .entry)) at) from stop r ⌝ }
+// The first zero of the sixteen units from `at` on, or 16.
+fn first_of_16_units(s: &[u8], at: usize) -> usize
+    requires { do ⌜ at + 32 ≤ (← ⟦s.len()⟧) ⌝ }
+    ensures { λ r. ⌜ First (unitOf (now (s .entry)) at) 0 16 r ⌝ }
 {
-    let mut n = from;
-    while 4 <= stop - n {
-        let r = first_of_4_units(s, at, n);
-        if r < n + 4 {
-            return r;
+    let mut j = 0;
+    while j < 16 {
+        if unit_at(s, at, j) == 0 {
+            return j;
         }
-        n += 4;
+        j += 1;
     }
-    first_unit_one_by_one(s, at, n, stop)
+    16
+}
+
+// The first zero of the units from the sixteenth up to `count`, or `count`, by blocks.
+fn first_unit_by_blocks(s: &[u8], at: usize, count: usize) -> usize
+    requires { do ⌜ (16 ≤ count) × (at + 2 * count ≤ (← ⟦s.len()⟧)) × ((← ⟦s.len()⟧) ≤ at + 2 * count + 1) ⌝ }
+    ensures { λ r. ⌜ First (unitOf (now (s .entry)) at) 16 count r ⌝ }
+{
+    let n = pass_units(s, at, 16, 64);
+    let n = pass_units(s, at, n, 8);
+    first_unit_one_by_one(s, at, n, count)
 }
 
 // The number of units from `at` on before the first zero unit, or of all; a lone last byte is no unit.
@@ -309,17 +303,12 @@ pub fn units_before_zero(s: &[u8], at: usize) -> usize
         return 0;
     }
     let count = (s.len() - at) / 2;
-    let mut n = 0;
-    while n < count {
-        if unit_at(s, at, n) == 0 {
-            return n;
-        }
-        let stop = smaller(n + 13, count);
-        let r = first_unit_by_fours(s, at, n + 1, stop);
-        if r < stop {
-            return r;
-        }
-        n = pass_units(s, at, pass_units(s, at, stop, 64), 8);
+    if count < 16 {
+        return first_unit_one_by_one(s, at, 0, count);
     }
-    n
+    let r = first_of_16_units(s, at);
+    if r < 16 {
+        return r;
+    }
+    first_unit_by_blocks(s, at, count)
 }

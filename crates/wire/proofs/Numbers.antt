@@ -10,9 +10,10 @@ use borrow.Author.Tests.{le-leb, lt-leb, leb-true, leb-false}
 use lib.ListN.{length, drop, getD, length-drop}
 use lib.Seq.{drop-cons}
 use lib.Dec.{leb}
-use Rattle.format.specs.Format.{number, got, decodeNumber, decode, size}
+use Rattle.format.specs.Format.{Format, number, got, decodeNumber, decode, size}
 use Rattle.format.specs.View.{seen, missed, view, placed, place}
-use Rattle.format.proofs.Passing.{plain-short}
+use Rattle.format.proofs.Width.{width}
+use Rattle.format.proofs.Passing.{Plain, plain-short}
 
 -- the number of w bytes at an offset, the lowest first
 abbrev pub numberAt : ℕ → List ℕ → ℕ → ℕ
@@ -27,14 +28,18 @@ decoded (suc w) s at h =
     let behind : suc at + w ≡ at + suc w = omega arith in
     rw (drop-cons s at 0 here, decoded w s (suc at) (omega arith), behind)
 
+-- numbers are not there where their bytes are not
+pub plain-missed : (f : Format) → Plain f → (s : List ℕ) (at : ℕ) → length s - at < width f → missed 7 ≡ view f s at
+unfolding view placed
+plain-missed f p s at h = rw (plain-short f p (drop at s) (omega (arith, length-drop at s)))
+
 module _ (w : ℕ) (s : List ℕ) (at : ℕ) where
   pub number-there : w ≤ length s - at → view (number w) s at ≡ seen (numberAt w s at) (at + w)
   unfolding view placed place size decode
   number-there h = rw (decoded w s at h)
 
   pub number-short : length s - at < w → missed 7 ≡ view (number w) s at
-  unfolding view placed
-  number-short h = rw (plain-short (number w) tt (drop at s) (omega (arith, length-drop at s)))
+  number-short h = plain-missed (number w) tt s at h
 
   number-is : {n : ℕ} → w ≤ length s - at → n ≡ numberAt w s at → seen n (at + w) ≡ view (number w) s at
   number-is h e = rw (number-there h, e)

@@ -148,7 +148,7 @@ fn join_2(a: u8, b: u8) -> u16
     (a as u16) + 256 * (b as u16)
 }
 
-fn join_4(a: u8, b: u8, c: u8, d: u8) -> u32
+pub fn join_4(a: u8, b: u8, c: u8, d: u8) -> u32
     ensures { λ r. ⌜ r ≡ a + 256 * b + 65536 * c + 16777216 * d ⌝ }
 {
     (a as u32) + 256 * (b as u32) + 65536 * (c as u32) + 16777216 * (d as u32)

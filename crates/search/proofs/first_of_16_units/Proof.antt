@@ -2,27 +2,21 @@ use Rattle.search.specs.Free.{unitOf, Free}
 use Rattle.search.proofs.Free.{free-none, free-more, free-to}
 use native.Mathlib.Omega.{arith}
 use mathlib.Core.Path.{sym, _∙_}
-use Prim.Native.Nat.{_≤_, _-_, _+_}
-use Rattle.search.proofs.first_of_4_units.Statement.{statement}
-use Rattle.search.proofs.first_of_4_units.Tie as tie
+use Prim.Native.Nat.{_≤_, _-_}
+use Rattle.search.proofs.first_of_16_units.Statement.{statement}
+use Rattle.search.proofs.first_of_16_units.Tie as tie
 
 abbrev Inv-loop : tie.InvT-loop
-Inv-loop s at n j₀ j = (j ≤ 4) × Free (unitOf s at) n (n + j)
+Inv-loop s at j₀ j = (j ≤ 16) × Free (unitOf s at) 0 j
 
 abbrev μ-loop : tie.MeasureT-loop
-μ-loop s at n j₀ j = 4 - j
+μ-loop s at j₀ j = 16 - j
 
 loop-holds : tie.Need-loop-holds Inv-loop μ-loop
 loop-holds c = (omega arith, free-none (omega arith))
 
-add-unit-at : tie.Need-add-unit-at Inv-loop μ-loop
-add-unit-at c = omega arith
-
 unit-at-requires : tie.Need-unit-at-requires Inv-loop μ-loop
 unit-at-requires c κs = omega arith
-
-add-result : tie.Need-add-result Inv-loop μ-loop
-add-result c = omega arith
 
 returns : tie.Need-returns Inv-loop μ-loop
 returns c = record { passed = c .before .before .before .loop .inv .1; within = omega arith; ends = λ h. sym (c .before .unit-at .ensures) ∙ c .if1 .taken }
@@ -36,25 +30,8 @@ loop-less c = omega arith
 loop-again : tie.Need-loop-again Inv-loop μ-loop
 loop-again c = (omega arith, free-more (c .before .before .before .loop .inv .1) (λ e. c .if1 .left (c .before .unit-at .ensures ∙ e)) (omega arith))
 
-add-result-2 : tie.Need-add-result-2 Inv-loop μ-loop
-add-result-2 c = omega arith
-
 returns-2 : tie.Need-returns-2 Inv-loop μ-loop
 returns-2 c = record { passed = free-to (c .before .loop .inv .1) (omega arith); within = omega arith; ends = λ h. absurd (omega arith) }
 
-pub first-of-4-units-spec : {M : Type 1} → statement M
-first-of-4-units-spec =
-    tie.close
-    (tie.spec
-    Inv-loop
-    μ-loop
-    loop-holds
-    add-unit-at
-    unit-at-requires
-    add-result
-    returns
-    add-j
-    loop-less
-    loop-again
-    add-result-2
-    returns-2)
+pub first-of-16-units-spec : {M : Type 1} → statement M
+first-of-16-units-spec = tie.close (tie.spec Inv-loop μ-loop loop-holds unit-at-requires returns add-j loop-less loop-again returns-2)
