@@ -19,8 +19,7 @@ use Rattle.put.specs.Put.{limit, Weighs, Writes, putJudged, putAt}
 use Rattle.put.specs.declared.Put.{Put}
 use Rattle.put.proofs.Bodies.{answer-number, answer-moved, answer-kept}
 use Rattle.put.proofs.Weighing.{passed}
-use Rattle.writer.specs.Says.{stateAfter, writtenSays, chlsDue, chlsPlace, chlsAnswer}
-use Rattle.writer.specs.declared.Written.{Written}
+use Rattle.writer.specs.Says.{stateAfter, chlsDue, chlsPlace, chlsNumber, chlsState}
 
 -- ---- out of turn
 
@@ -141,11 +140,11 @@ past-end f v o e = ap (λ (x : Put × List ℕ). x .1) (answer-kept _ _ f v 1677
     absurd (omega (arith, n .within))))
 
 -- its place, its write's answer and its own make what the call does
-pub channel-list : (v : Value (bodyOf ChLs)) (w : Writer) (o : List ℕ) (place : ℕ) {p : Put} {after : List ℕ} (r : Written)
-    → place ≡ chlsPlace w → _≡_ {A = Put × List ℕ} (p, after) (putAt (bodyOf ChLs) v place o) → chlsAnswer r p w
-    → writtenSays r after ≡ apply (give (body ChLs v)) w o
-channel-list v w o place {p} {after} r e a s = go (chlsDue w) refl
+pub channel-list : (v : Value (bodyOf ChLs)) (w : Writer) (o : List ℕ) (place : ℕ) {p : Put} {after : List ℕ} {n : ℕ} {next : Writer}
+    → place ≡ chlsPlace w → _≡_ {A = Put × List ℕ} (p, after) (putAt (bodyOf ChLs) v place o) → (n ≡ chlsNumber p w) × (next ≡ chlsState p w)
+    → record { number = n; writer = next; output = after } ≡ apply (give (body ChLs v)) w o
+channel-list v w o place {p} {after} {n} {next} e a s = go (chlsDue w) refl
   where
-    go : (due : Bool) → chlsDue w ≡ due → writtenSays r after ≡ apply (give (body ChLs v)) w o
+    go : (due : Bool) → chlsDue w ≡ due → record { number = n; writer = next; output = after } ≡ apply (give (body ChLs v)) w o
     go true d = gave (body ChLs v) w o (sym d) refl (rw (e, d) at a) (rw d at s) refl
     go false d = rw (past-end (bodyOf ChLs) v o (rw (e, d) at a)) (out-of-turn (give (body ChLs v)) w (sym d) refl (rw d at s))

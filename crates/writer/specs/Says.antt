@@ -1,6 +1,5 @@
 -- Which state of the definition a state of the code is, and what a call's answer says.
 use Prim.Native.Nat.{ℕ, zero, suc}
-use mathlib.Core.Path.{_≡_}
 use mathlib.Core.Bool.{Bool, _&&_}
 use mathlib.Core.List.{List}
 use Rattle.format.specs.Format.{pick}
@@ -32,7 +31,10 @@ chlsDue w = writing.isBody ChLs (w .turn) && writing.behindHeaders (w .turn) (w 
 abbrev pub chlsPlace : writing.Writer → ℕ
 chlsPlace w = pick (chlsDue w) (w .at) 16777217
 
--- the answer of its call, from that of its write
-abbrev pub chlsAnswer : Written → Put → writing.Writer → Type 0
-chlsAnswer r p w =
-    (r .number ≡ pick (chlsDue w) (p .number) 14) × (stateOf (r .writer) ≡ pick (chlsDue w) (stateAfter (p .number) (p .at) (writing.itemsDue ChLs 0) w) w)
+-- the number that its call answers, from what its write does
+abbrev pub chlsNumber : Put → writing.Writer → ℕ
+chlsNumber p w = pick (chlsDue w) (p .number) 14
+
+-- and the state for the next call
+abbrev pub chlsState : Put → writing.Writer → writing.Writer
+chlsState p w = pick (chlsDue w) (stateAfter (p .number) (p .at) (writing.itemsDue ChLs 0) w) w

@@ -13,7 +13,7 @@ ghost use Rattle.caex.specs.Write.{pointValue};
 ghost use Rattle.fixture.specs.Codes.{identifierTypeCode};
 ghost use Rattle.fixture.specs.Write.{dataValue};
 ghost use Rattle.turns.specs.Says.{kindIs, turnIs};
-ghost use Rattle.writer.specs.Says.{stateOf, writtenSays, stateAfter, chlsPlace, chlsAnswer};
+ghost use Rattle.writer.specs.Says.{stateOf, writtenSays, stateAfter, chlsPlace, chlsNumber, chlsState};
 use caex::EnterShow;
 use caex::FixtureList;
 use caex::FixtureListMessageType;
@@ -269,7 +269,7 @@ impl Writer {
     }
 
     // Where a channel list is written: past the largest packet's end where it is not due, so that nothing is.
-    fn chls_place(self) -> usize
+    pub fn chls_place(self) -> usize
         ensures { λ r. ⌜ r ≡ chlsPlace (stateOf self) ⌝ }
     {
         if self.body_is_due(Kind::ChLs) {
@@ -278,8 +278,8 @@ impl Writer {
         LIMIT + 1
     }
 
-    fn after_chls(self, put: Put) -> Written
-        ensures { λ r. ⌜ chlsAnswer r put (stateOf self) ⌝ }
+    pub fn after_chls(self, put: Put) -> Written
+        ensures { λ r. ⌜ (r .number ≡ chlsNumber put (stateOf self)) × (stateOf (r .writer) ≡ chlsState put (stateOf self)) ⌝ }
     {
         if self.body_is_due(Kind::ChLs) {
             return self.after(put, Turn::Items(Kind::ChLs, 0));
