@@ -270,27 +270,27 @@ fn first_unit_one_by_one(s: &[u8], at: usize, from: usize, stop: usize) -> usize
     n
 }
 
-// The first zero of the sixteen units from `at` on, or 16.
-fn first_of_16_units(s: &[u8], at: usize) -> usize
-    requires { do ⌜ at + 32 ≤ (← ⟦s.len()⟧) ⌝ }
-    ensures { λ r. ⌜ First (unitOf (now (s .entry)) at) 0 16 r ⌝ }
+// The first zero of the 24 units from `at` on, or 24.
+fn first_of_24_units(s: &[u8], at: usize) -> usize
+    requires { do ⌜ at + 48 ≤ (← ⟦s.len()⟧) ⌝ }
+    ensures { λ r. ⌜ First (unitOf (now (s .entry)) at) 0 24 r ⌝ }
 {
     let mut j = 0;
-    while j < 16 {
+    while j < 24 {
         if unit_at(s, at, j) == 0 {
             return j;
         }
         j += 1;
     }
-    16
+    24
 }
 
-// The first zero of the units from the sixteenth up to `count`, or `count`, by blocks.
+// The first zero of the units from the 24th up to `count`, or `count`, by blocks.
 fn first_unit_by_blocks(s: &[u8], at: usize, count: usize) -> usize
-    requires { do ⌜ (16 ≤ count) × (at + 2 * count ≤ (← ⟦s.len()⟧)) × ((← ⟦s.len()⟧) ≤ at + 2 * count + 1) ⌝ }
-    ensures { λ r. ⌜ First (unitOf (now (s .entry)) at) 16 count r ⌝ }
+    requires { do ⌜ (24 ≤ count) × (at + 2 * count ≤ (← ⟦s.len()⟧)) × ((← ⟦s.len()⟧) ≤ at + 2 * count + 1) ⌝ }
+    ensures { λ r. ⌜ First (unitOf (now (s .entry)) at) 24 count r ⌝ }
 {
-    let n = pass_units(s, at, 16, 64);
+    let n = pass_units(s, at, 24, 64);
     let n = pass_units(s, at, n, 8);
     first_unit_one_by_one(s, at, n, count)
 }
@@ -303,11 +303,11 @@ pub fn units_before_zero(s: &[u8], at: usize) -> usize
         return 0;
     }
     let count = (s.len() - at) / 2;
-    if count < 16 {
+    if count < 24 {
         return first_unit_one_by_one(s, at, 0, count);
     }
-    let r = first_of_16_units(s, at);
-    if r < 16 {
+    let r = first_of_24_units(s, at);
+    if r < 24 {
         return r;
     }
     first_unit_by_blocks(s, at, count)
