@@ -6,10 +6,11 @@ use mathlib.Core.List.{List, [], _∷_}
 use native.Mathlib.Omega.{arith}
 use borrow.Author.Tests.{eq-eqb, ne-eqb}
 use lib.Dec.{eqb}
-use lib.ListN.{length, drop, length-drop}
-use lib.Seq.{getD-drop}
+use lib.ListN.{length, take, drop, length-drop}
+use lib.Seq.{take-all, getD-drop}
 use Rattle.search.specs.Zero.{unless, beforeZero, unitsBeforeZero}
-use Rattle.search.specs.Free.{byteOf, unitOf, Free}
+use Rattle.search.specs.Free.{byteOf, unitOf, Free, First}
+use Rattle.search.proofs.Free.{split}
 
 -- the first zero of a list
 bytes-counted : (t : List ℕ) (n : ℕ) → ((k : ℕ) → k < n → byteOf t k ≡ 0 → ⊥) → (n < length t → byteOf t n ≡ 0) → n ≡ beforeZero t
@@ -47,6 +48,18 @@ module _ (s : List ℕ) (at : ℕ) where
       (λ k h z. x .free (at + k) (omega arith) (omega arith) (sym (getD-drop at s k 0) ∙ z))
       (λ h. getD-drop at s (r - at) 0 ∙ rw back (ends (omega (arith, length-drop at s)))) in
       omega (arith, counted, x .rises)
+
+  -- what is behind `at`, as a slice of its own
+  abbrev behind : List ℕ
+  behind = take (length s - at) (drop at s)
+
+  -- the first eight looked at where they stand, the others in that slice
+  pub first-behind : {r : ℕ} → Free (byteOf s) at (at + 8) → First (byteOf behind) 8 (length behind) r → at + r ≡ at + beforeZero (drop at s)
+  first-behind {r} near first =
+      let far : First (byteOf (drop at s)) 8 (length (drop at s)) r = rw (take-all (length s - at) (drop at s) (omega (arith, length-drop at s))) at first in
+      let passed : (k : ℕ) → k < r → byteOf (drop at s) k ≡ 0 → ⊥ = λ k h z. split k 7 ⊥
+      (λ l. near .free (at + k) (omega arith) (omega arith) (sym (getD-drop at s k 0) ∙ z)) (λ l. far .passed .free k (omega arith) h z) in
+      ap (λ n. at + n) (bytes-counted (drop at s) r passed (far .ends))
 
   dropped : (k : ℕ) → unitOf (drop at s) 0 k ≡ unitOf s at k
   dropped k =

@@ -204,7 +204,9 @@ pub fn first_zero_near(s: &[u8], at: usize) -> usize
     if r < at + 8 {
         return r;
     }
-    first_by_blocks(s, r)
+    // the blocks get a slice of their own: so this one stays in registers, and short names pay for no frame
+    let rest = &s[at..];
+    at + first_by_blocks(rest, 8)
 }
 
 // ---- units; `at` is where the first one starts
