@@ -1,9 +1,9 @@
--- Lists passed over: item by item, and, where every item is numbers only, by the length alone.
+-- Lists passed over: item by item, and, where every item is numbers only, by the length alone. And what was read, by the offset behind it alone.
 use Prim.Native.Nat.{ℕ, zero, suc, _+_, _-_, _*_, _<_, _≤_}
 use mathlib.Core.Path.{_≡_, refl, sym, ap, _∙_}
 use mathlib.Core.Bool.{Bool, true, false}
 use mathlib.Core.List.{List, [], _∷_, map}
-use native.Mathlib.Nat.{suc-mul, zero-mul, add-assoc, add-zero}
+use native.Mathlib.Nat.{suc-mul, zero-mul, one-mul, add-assoc, add-zero}
 use native.Mathlib.Omega.{arith}
 use borrow.Author.Tests.{leb-true, leb-false}
 use lib.ListN.{length, take, drop, getD, length-drop}
@@ -13,7 +13,7 @@ use Rattle.format.specs.Format.{Format, number, code, cstring, ucs2, lis
 use Rattle.format.proofs.Reading.{Gives, gives, fails, given}
 use Rattle.format.proofs.Width.{Behind, number-behind, decode-behind, items-count, Fixed, width, size-is-width}
 use Rattle.format.specs.View.{View, Seen, seen, missed, view, placed, place, stepped, steps, look}
-use Rattle.format.specs.Passed.{ended, passed, room}
+use Rattle.format.specs.Passed.{ended, passed, past, room}
 use Rattle.format.proofs.Views.{after, byte-there}
 
 -- ---- items passed one by one
@@ -82,6 +82,51 @@ module _ (f : Format) (w : ℕ) (s : List ℕ) (at : ℕ) where
   pub list-short : {k : ℕ} → view (number w) s at ≡ missed k → view (list w f) s at ≡ missed k
   unfolding after
   list-short p = rw (view-list f s w at, p) refl
+
+-- ---- what was read, by the offset behind it alone
+
+past-after : {B C : Type 0} (v : Seen B) (k : B → C) → past (after v (λ b d. seen (k b) d)) ≡ past v
+unfolding after
+past-after (seen b d) k = refl
+past-after (missed n) k = refl
+
+-- two things, one behind the other, whatever is made of them
+pub past-both : {A B C : Type 0} (v : Seen A) (w : ℕ → Seen B) (k : A → B → C)
+    → past (after v (λ a e. after (w e) (λ b d. seen (k a b) d))) ≡ after (past v) (λ u e. past (w e))
+unfolding after
+past-both (seen a e) w k = past-after (w e) (k a)
+past-both (missed n) w k = refl
+
+-- a list is its count, then its items passed
+pub past-list : (f : Format) (w : ℕ) (s : List ℕ) (at : ℕ) → past (view (list w f) s at) ≡ after (view (number w) s at) (λ n e. passed f s e n)
+unfolding after
+past-list f w s at = ap past (view-list f s w at) ∙ by (view (number w) s at)
+  where
+    same : (v : Seen (Unit {0})) → past v ≡ v
+    same (seen u e) = refl
+    same (missed k) = refl
+
+    by : (v : Seen ℕ) → past {A = ℕ × ℕ} (after v (λ n e. after (passed f s e n) (λ u d. seen (e, n) d))) ≡ after v (λ n e. passed f s e n)
+    by (seen n e) = past-after (passed f s e n) (λ u. (e, n)) ∙ same (passed f s e n)
+    by (missed k) = refl
+
+-- an item is passed, then the others
+module _ (f : Format) (s : List ℕ) (at : ℕ) where
+  pub passed-past : (n : ℕ) → 0 < n → passed f s at n ≡ after (past (view f s at)) (λ u e. passed f s e (n - 1))
+  unfolding after
+  passed-past n h = passed-pred f s at n h ∙ by (view f s at)
+    where
+      by : (v : Seen (View f)) → after v (λ a e. passed f s e (n - 1)) ≡ after (past v) (λ u e. passed f s e (n - 1))
+      by (seen a e) = refl
+      by (missed k) = refl
+
+  past-once : passed f s at 1 ≡ past (view f s at)
+  unfolding after
+  past-once = passed-more f s at 0 ∙ by (view f s at)
+    where
+      by : (v : Seen (View f)) → after v (λ a e. passed f s e 0) ≡ past v
+      by (seen a e) = passed-none f s e
+      by (missed k) = refl
 
 -- ---- formats of numbers only: there where their bytes are, and refused 7 where they are not
 
@@ -218,6 +263,10 @@ module _ (f : Format) (p : Plain f) where
           let z : total (size f) (a .value) ≡ n * width f = total-width (a .value) ∙ ap (λ (m : ℕ). m * width f) c in
           ap (ended (size f) at) (a .reads) ∙ ap (λ (m : ℕ). seen tt (at + m)) z
       by false e = rw (items-short n (drop at s) (omega (arith, leb-false (n * width f) (length s - at) e, length-drop at s)))
+
+-- numbers are passed where their bytes are
+pub past-plain : (f : Format) → Plain f → (s : List ℕ) (at : ℕ) → past (view f s at) ≡ room s at (width f)
+past-plain f p s at = sym (past-once f s at) ∙ passed-plain f p s at 1 ∙ ap (room s at) (one-mul (width f))
 
 -- ---- a block of bytes: stepping through it gives the bytes of its range
 

@@ -14,6 +14,11 @@ ended k at (refused n) = missed n
 unfoldable pub passed : (f : Format) → List ℕ → ℕ → ℕ → Seen (Unit {0})
 passed f s at n = ended (size f) at (decodeItems (decode f) n (drop at s))
 
+-- the offset behind what was read, or its refusal
+abbrev pub past : {A : Type 0} → Seen A → Seen (Unit {0})
+past (seen a e) = seen tt e
+past (missed k) = missed k
+
 -- m bytes at an offset: the offset behind them, or 7
 unfoldable pub room : List ℕ → ℕ → ℕ → Seen (Unit {0})
 room s at m = pick (leb m (length s - at)) (seen tt (at + m)) (missed 7)
