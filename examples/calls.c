@@ -82,6 +82,10 @@ static void is_numbers(citp_list_body r) {
     is_list(r, 8, 3);
     citp_u16_next n = citp_u16_list_next(body, len, r.at, r.left);
     CHECK(n.number == 0 && n.given == 1 && n.value == 0x0102 && n.at == 4 && n.left == 2);
+    uint16_t all[3];
+    CHECK(citp_u16_list_copy(body, len, r.at, r.left, all, 2).number == 13 && citp_u16_list_copy(body, 7, r.at, r.left, all, 3).number == 7);
+    citp_copied c = citp_u16_list_copy(body, len, r.at, r.left, all, 3);
+    CHECK(c.number == 0 && c.len == 3 && memcmp(all, numbers, sizeof numbers) == 0);
 }
 
 static void read_fixture(citp_fixture_list r) {
@@ -110,6 +114,8 @@ static void read_caex(uint8_t kind) {
         is_list(citp_fixture_remove_read(body, len), 10, 2);
         citp_u32_next n = citp_u32_list_next(body, len, 2, 2);
         CHECK(n.number == 0 && n.given == 1 && n.value == 0x01020304 && n.at == 6 && n.left == 1);
+        uint32_t all[2];
+        CHECK(citp_u32_list_copy(body, len, 2, 2, all, 2).len == 2 && memcmp(all, wide, sizeof wide) == 0);
     } else {
         citp_laser_feed_control r = citp_laser_feed_control_read(body, len);
         CHECK(r.number == 0 && r.taken == 2 && r.feed_index == 1 && r.frame_rate == 2);

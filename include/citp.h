@@ -325,15 +325,19 @@ citp_channel_level_next citp_channel_levels_next(const uint8_t *body, size_t bod
 citp_fixture_next citp_fixtures_next(const uint8_t *body, size_t body_len, size_t at, uint16_t left);
 citp_identifier_next citp_identifiers_next(const uint8_t *body, size_t body_len, size_t at, uint8_t left);
 
-/* ---- strings copied out of a body, from their start up to the zero, which is not copied */
+/* ---- strings and lists of numbers copied out of a body */
 
 typedef struct {
-    uint8_t number; /* 0, 8 or 13 */
-    size_t len;     /* bytes or units copied */
+    uint8_t number; /* 0; a string 8 or 13, a list 7 or 13 */
+    size_t len;     /* bytes, units or items copied */
 } citp_copied;
 
+/* a string, from its start up to the zero, which is not copied */
 citp_copied citp_copy_cstring(const uint8_t *body, size_t body_len, size_t start, uint8_t *out, size_t out_len);
 citp_copied citp_copy_ucs2(const uint8_t *body, size_t body_len, size_t start, uint16_t *out, size_t out_len);
+/* the whole of a list at once */
+citp_copied citp_u16_list_copy(const uint8_t *body, size_t body_len, size_t at, uint16_t left, uint16_t *out, size_t out_len);
+citp_copied citp_u32_list_copy(const uint8_t *body, size_t body_len, size_t at, uint16_t left, uint32_t *out, size_t out_len);
 
 /* ---- sizes of bodies and of parts; past 16,777,216 bytes 16,777,217 */
 

@@ -370,6 +370,8 @@ functions! {
     identifiers_next(body: &[u8], at: usize, left: u8) -> IdentifierNext;
     copy_cstring(body: &[u8], start: usize, out: &mut [u8]) -> Copied;
     copy_ucs2(body: &[u8], start: usize, out: &mut [u16]) -> Copied;
+    u16_list_copy(body: &[u8], at: usize, left: u16, out: &mut [u16]) -> Copied;
+    u32_list_copy(body: &[u8], at: usize, left: u16, out: &mut [u32]) -> Copied;
     enter_show_size(name: &[u16]) -> usize;
     fixture_remove_size(fixture_identifiers: &[u32]) -> usize;
     laser_feed_control_size() -> usize;

@@ -1,8 +1,8 @@
-// Lists stepped through and strings copied. `given` is 1 with an item and the cursor behind it; else the list is done, or refused.
+// Lists stepped through, lists of numbers and strings copied. `given` is 1 with an item and the cursor behind it; else the list is done, or refused.
 ghost use mathlib.Core.Path.{_≡_};
 ghost use Rattle.format.specs.Format.{number};
 ghost use Rattle.format.specs.View.{stepped, item};
-ghost use Rattle.format.specs.Copy.{copyCString, copyUcs2};
+ghost use Rattle.format.specs.Copy.{copyCString, copyUcs2, copyNumbers};
 ghost use Rattle.protocol.specs.Kind.{channelLevelFormat, fixtureFormat, identifierFormat};
 ghost use Rattle.fixture.specs.Says.{fixtureView};
 ghost use Rattle.bridge.specs.List.{noU16, noU32, noChannelLevel, noIdentifier, noFixture, flatU16, flatU32, flatChannelLevel, flatIdentifier};
@@ -301,7 +301,7 @@ pub extern "C" fn citp_fixtures_next(body: &[u8], at: usize, left: u16) -> Fixtu
     }
 }
 
-// ---- strings
+// ---- copies
 
 #[repr(C)]
 pub struct CopyAnswer {
@@ -326,6 +326,38 @@ pub extern "C" fn citp_copy_ucs2(body: &[u8], start: usize, out: &mut [u16]) -> 
 {
     let string = Ucs2 { start, len: 0 };
     match copy_ucs2(body, string, out) {
+        Copied::Copied(len) => CopyAnswer { number: 0, len },
+        Copied::Refused(number) => CopyAnswer { number, len: 0 },
+    }
+}
+
+#[no_mangle]
+pub extern "C" fn citp_u16_list_copy(
+    body: &[u8],
+    at: usize,
+    left: u16,
+    out: &mut [u16],
+) -> CopyAnswer
+    ensures { λ r. ⌜ (r, now (out .exit)) ≡ flatCopy (copyNumbers 2 (now (body .entry)) at left (now (out .entry))) ⌝ }
+{
+    let list = U16List { at, left };
+    match list.copy(body, out) {
+        Copied::Copied(len) => CopyAnswer { number: 0, len },
+        Copied::Refused(number) => CopyAnswer { number, len: 0 },
+    }
+}
+
+#[no_mangle]
+pub extern "C" fn citp_u32_list_copy(
+    body: &[u8],
+    at: usize,
+    left: u16,
+    out: &mut [u32],
+) -> CopyAnswer
+    ensures { λ r. ⌜ (r, now (out .exit)) ≡ flatCopy (copyNumbers 4 (now (body .entry)) at left (now (out .entry))) ⌝ }
+{
+    let list = U32List { at, left };
+    match list.copy(body, out) {
         Copied::Copied(len) => CopyAnswer { number: 0, len },
         Copied::Refused(number) => CopyAnswer { number, len: 0 },
     }

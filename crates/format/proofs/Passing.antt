@@ -230,7 +230,7 @@ module _ (f : Format) (p : Plain f) where
       there-bind (λ x t. bind (decodeItems (decode f) n t) (λ xs u. got (x ∷ xs) u)) a
       (there-bind (λ xs u. got (a .value ∷ xs) u) rest (there-got (a .value ∷ b .value) (b .behind)))
 
-  items-short : (n : ℕ) (s : List ℕ) → length s < n * width f → decodeItems (decode f) n s ≡ refused 7
+  pub items-short : (n : ℕ) (s : List ℕ) → length s < n * width f → decodeItems (decode f) n s ≡ refused 7
   unfolding decodeItems
   items-short zero s h = absurd (omega (arith, zero-mul (width f)))
   items-short (suc n) s h =

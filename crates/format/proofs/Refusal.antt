@@ -53,13 +53,13 @@ module _ (P : ℕ → Type 0) (eight : P 8) where
   ucs2-refuses (b ∷ c ∷ s) = refuses-pick (eqb (b + 256 * c) 0) reads (refuses-bind (ucs2-refuses s) λ xs t. reads)
 
 -- a number with 7
-number-refuses : (P : ℕ → Type 0) → P 7 → (w : ℕ) (s : List ℕ) → Refuses P (decodeNumber w s)
+pub number-refuses : (P : ℕ → Type 0) → P 7 → (w : ℕ) (s : List ℕ) → Refuses P (decodeNumber w s)
 unfolding decodeNumber
 number-refuses P seven zero s = reads
 number-refuses P seven (suc w) [] = refuses seven
 number-refuses P seven (suc w) (b ∷ s) = refuses-bind (number-refuses P seven w s) λ n t. reads
 
-items-refuse : {A : Type 0} (P : ℕ → Type 0) (read : List ℕ → Read A) → ((s : List ℕ) → Refuses P (read s)) → (n : ℕ) (s : List ℕ) → Refuses P (decodeItems read n s)
+pub items-refuse : {A : Type 0} (P : ℕ → Type 0) (read : List ℕ → Read A) → ((s : List ℕ) → Refuses P (read s)) → (n : ℕ) (s : List ℕ) → Refuses P (decodeItems read n s)
 unfolding decodeItems
 items-refuse P read h zero s = reads
 items-refuse P read h (suc n) s = refuses-bind (h s) λ a t. refuses-bind (items-refuse P read h n t) λ xs u. reads

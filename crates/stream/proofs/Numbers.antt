@@ -13,7 +13,7 @@ use Rattle.format.proofs.Bools.{neither}
 use Rattle.format.specs.View.{View, view, placed}
 use Rattle.format.specs.Walk.{Step, stop, report}
 use Rattle.format.proofs.Walks.{Steps, stops, goes, walk-ends}
-use Rattle.format.proofs.Copies.{cstring-copies, ucs2-copies}
+use Rattle.format.proofs.Copies.{cstring-copies, ucs2-copies, numbers-copies}
 use Rattle.format.proofs.Refusal.{codesWithin, Refuses, reads, refuses, refused-with, decode-refuses}
 use Rattle.protocol.specs.Layer.{Layer, headerLength, layerOf, header, layerHeader, citp, limit, cookieField, majorField, requestField, sizeField, countField, partField, layerField}
 use Rattle.protocol.specs.Kind.{Kind, layer, bodyOf, kindOf, sameKind}
@@ -141,10 +141,10 @@ ends s = walk-ends stepAt (λ n. n ≤ 5) (λ (r : Report View). r .size) (λ s 
 pub call-numbers : claims.CallNumbers
 call-numbers c w o = one-call c w o
 
--- ---- string copies
+-- ---- copies
 
 pub copy-numbers : claims.CopyNumbers
-copy-numbers s at out = (cstring-copies s at out, ucs2-copies s at out)
+copy-numbers s at out = (cstring-copies s at out, ucs2-copies s at out, λ w n. numbers-copies w s at n out)
 
 -- ---- all of them
 

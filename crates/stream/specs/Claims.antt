@@ -8,7 +8,7 @@ use mathlib.Core.Option.{Option, some}
 use lib.ListN.{length}
 use Rattle.format.specs.Format.{Value, pick, got, refused, decode, encode, size, All, Bytes, Valid}
 use Rattle.format.specs.View.{View, seen, view, place, look}
-use Rattle.format.specs.Copy.{copyCString, copyUcs2, Copies}
+use Rattle.format.specs.Copy.{copyCString, copyUcs2, copyNumbers, Copies}
 use Rattle.format.specs.Walk.{stop, report, reports, keep, Ended}
 use Rattle.protocol.specs.Layer.{header, minorField, countField, partField}
 use Rattle.protocol.specs.Kind.{Kind, FixtureList, bodyOf, sameKind, isRead}
@@ -40,9 +40,10 @@ abbrev pub CallNumbers : Type 0
 CallNumbers = (c : Call) (w : Writer) (o : List ℕ)
     → (apply c w o .number ≡ 0) ⊎ ((11 ≤ apply c w o .number) × (apply c w o .number ≤ 15) × (apply c w o .writer ≡ w) × (apply c w o .output ≡ o))
 
--- copy-numbers (Numbers): a string copy is taken, or refused with 8 or 13 and leaves the lent output as it was
+-- copy-numbers (Numbers): a copy is taken, or refused, a string's with 8 or 13, a list's with 7 or 13, and leaves the lent output as it was
 abbrev pub CopyNumbers : Type 0
-CopyNumbers = (s : List ℕ) (at : ℕ) (out : List ℕ) → Copies out (copyCString s at out) × Copies out (copyUcs2 s at out)
+CopyNumbers = (s : List ℕ) (at : ℕ) (out : List ℕ)
+    → Copies 8 out (copyCString s at out) × Copies 8 out (copyUcs2 s at out) × ((w n : ℕ) → Copies 7 out (copyNumbers w s at n out))
 
 -- numbers (Numbers)
 abbrev pub Numbers : Type 0

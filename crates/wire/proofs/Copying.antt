@@ -1,18 +1,20 @@
--- A string copied: the loop's step, over the list that is copied, and the answer with the output afterwards.
-use Prim.Native.Nat.{ℕ, zero, suc, _+_, _-_, _*_, _<_, _≤_}
-use mathlib.Core.Path.{_≡_, refl}
-use mathlib.Core.List.{List, [], _∷_, _++_}
+-- A string or a list copied: the loop's step, over the list that is copied, and the answer with the output afterwards.
+use Prim.Native.Nat.{ℕ, suc, _+_, _-_, _*_, _<_, _≤_}
+use mathlib.Core.Path.{_≡_}
+use mathlib.Core.List.{List, _++_}
 use native.Mathlib.Numerals.{add-one}
 use native.Mathlib.Nat.{zero-add}
 use native.Mathlib.Omega.{arith}
 use borrow.Author.Tests.{lt-ltb, le-ltb}
 use lib.ListN.{length, take, drop, getD, set, length-drop}
-use lib.Seq.{length-take-le, take-all, getD-drop, paste-suc}
-use Rattle.format.specs.Format.{Read, got, refused, decodeCString, decodeUcs2, decode}
+use lib.Seq.{length-take-le, take-all, paste-suc}
+use Rattle.format.specs.Format.{number, Read, got, refused, decodeItems, decodeCString, decodeUcs2, decode}
 use Rattle.format.specs.View.{unitsOf}
-use Rattle.format.specs.Copy.{took, denied, copied, copyCString, copyUcs2}
+use Rattle.format.specs.Copy.{took, denied, copied, copyCString, copyUcs2, copyNumbers}
+use Rattle.format.proofs.Passing.{items-short}
 use Rattle.search.specs.Zero.{beforeZero, unitsBeforeZero}
 use Rattle.search.proofs.Zero.{units-within}
+use Rattle.wire.proofs.Numbers.{numberAt, numbersAt, numbers-decoded, numbers-length, number-of}
 use Rattle.wire.proofs.Strings.{cstring-ends, cstring-unended, ucs2-ends, ucs2-unended, length-units}
 
 -- one element more of xs stands first in the output
@@ -24,26 +26,16 @@ pub copy-next : (start xs : List ℕ) {out : List ℕ} {i b : ℕ} → i < lengt
     out ≡ take i xs ++ drop i start → set out i b ≡ take (i + 1) xs ++ drop (i + 1) start
 copy-next start xs {out} {i} h l e p = rw (p, e) (copy-more start xs i h l)
 
--- the units of a body, one by one
-units-at : (n : ℕ) (t : List ℕ) (i : ℕ) → i < n → 2 * n ≤ length t → getD (unitsOf n t) i 0 ≡ getD t (2 * i) 0 + 256 * getD t (2 * i + 1) 0
-unfolding unitsOf
-units-at zero t i h l = absurd (omega arith)
-units-at (suc n) [] i h l = absurd (omega arith)
-units-at (suc n) (b ∷ []) i h l = absurd (omega arith)
-units-at (suc n) (b ∷ c ∷ t) zero h l = refl
-units-at (suc n) (b ∷ c ∷ t) (suc i) h l =
-    let low : 2 * suc i ≡ suc (suc (2 * i)) = omega arith in
-    let high : suc (suc (2 * i)) + 1 ≡ suc (suc (2 * i + 1)) = omega arith in
-    rw (low, high) (units-at n t i (omega arith) (omega arith))
+-- n numbers of w bytes, one by one
+module _ (w : ℕ) (s : List ℕ) (at n : ℕ) (start : List ℕ) where
+  pub number-next : {out : List ℕ} {i k b : ℕ} → i < n → n ≤ length start → k ≡ at + i * w → b ≡ numberAt w s k →
+      out ≡ take i (numbersAt w s at n) ++ drop i start → set out i b ≡ take (i + 1) (numbersAt w s at n) ++ drop (i + 1) start
+  number-next {i} {b} h l k e p =
+      let there : b ≡ getD (numbersAt w s at n) i 0 = rw (number-of w s at n i h, ← k) e in
+      copy-next start (numbersAt w s at n) (omega (arith, numbers-length w s at n)) (omega arith) there p
 
-pub unit-there : (s : List ℕ) (at n i : ℕ) → i < n → at + 2 * n ≤ length s →
-    getD s (at + 2 * i) 0 + 256 * getD s (at + 2 * i + 1) 0 ≡ getD (unitsOf n (drop at s)) i 0
-unit-there s at n i h l =
-    let high : at + (2 * i + 1) ≡ at + 2 * i + 1 = omega arith in
-    rw (units-at n (drop at s) i h (omega (arith, length-drop at s)), getD-drop at s (2 * i) 0, getD-drop at s (2 * i + 1) 0, high)
-
-pub all-units : (s : List ℕ) (at n : ℕ) → at + 2 * n ≤ length s → take n (unitsOf n (drop at s)) ≡ unitsOf n (drop at s)
-all-units s at n l = take-all n (unitsOf n (drop at s)) (omega (arith, length-units n (drop at s) (omega (arith, length-drop at s))))
+  pub all-numbers : {out : List ℕ} {i : ℕ} → i ≡ n → out ≡ take i (numbersAt w s at n) ++ drop i start → out ≡ numbersAt w s at n ++ drop n start
+  all-numbers e p = rw (e, take-all n (numbersAt w s at n) (omega (arith, numbers-length w s at n))) at p
 
 -- ---- the answers
 
@@ -98,3 +90,17 @@ module _ (s : List ℕ) (at : ℕ) (out : List ℕ) {n : ℕ} (e : n ≡ unitsBe
       o ≡ unitsOf n (drop at s) ++ drop n out → (took n, o) ≡ copyUcs2 s at out
   unfolding copyUcs2 decode
   ucs2-copied h l p = taken (decodeUcs2 (drop at s)) out n (units-read h) units-length l p
+
+-- a list of n numbers of w bytes
+module _ (w : ℕ) (s : List ℕ) (at n : ℕ) (out : List ℕ) where
+  pub numbers-7 : length s - at < n * w → (denied 7, out) ≡ copyNumbers w s at n out
+  unfolding copyNumbers
+  numbers-7 h = not-read (decodeItems (decode (number w)) n (drop at s)) out (items-short (number w) tt n (drop at s) (omega (arith, length-drop at s)))
+
+  pub numbers-13 : n * w ≤ length s - at → length out < n → (denied 13, out) ≡ copyNumbers w s at n out
+  unfolding copyNumbers
+  numbers-13 h l = too-long (decodeItems (decode (number w)) n (drop at s)) out n (numbers-decoded w s at n h) (numbers-length w s at n) l
+
+  pub numbers-copied : {o : List ℕ} → n * w ≤ length s - at → n ≤ length out → o ≡ numbersAt w s at n ++ drop n out → (took n, o) ≡ copyNumbers w s at n out
+  unfolding copyNumbers
+  numbers-copied h l p = taken (decodeItems (decode (number w)) n (drop at s)) out n (numbers-decoded w s at n h) (numbers-length w s at n) l p

@@ -1,4 +1,4 @@
-// The fields of a body, read at a cursor: numbers by value; strings, blocks and lists by their place in the body. Strings copied out of it.
+// The fields of a body, read at a cursor: numbers by value; strings, blocks and lists by their place in the body. Strings and lists of numbers copied out of it.
 ghost use Prim.Native.Nat.{_+_, _*_, _-_, _≤_};
 ghost use mathlib.Core.Path.{_≡_};
 ghost use mathlib.Core.List.{_++_};
@@ -7,7 +7,7 @@ ghost use lib.Dec.{leb};
 ghost use Rattle.format.specs.Format.{number, cstring, ucs2, list};
 ghost use Rattle.format.specs.View.{view, stepped, unitsOf};
 ghost use Rattle.format.specs.Passed.{room};
-ghost use Rattle.format.specs.Copy.{copyCString, copyUcs2};
+ghost use Rattle.format.specs.Copy.{took, copyCString, copyUcs2, copyNumbers};
 ghost use Rattle.wire.specs.Items.{itemsAt, itemStepped};
 ghost use Rattle.wire.specs.Says.{u8Says, u16Says, u32Says, cstringSays, ucs2Says, blockSays, skipSays};
 ghost use Rattle.wire.specs.Says.{u16ListSays, u32ListSays, itemsSays, u16NextSays, u32NextSays, itemsNextSays, copiedSays};
@@ -126,7 +126,7 @@ pub enum ItemsNext {
     Refused(u8),
 }
 
-// The length of a string copied, or the number of the refusal.
+// The length of a string or a list copied, or the number of the refusal.
 pub enum Copied {
     Copied(usize),
     Refused(u8),
@@ -299,7 +299,7 @@ impl Cursor {
     }
 }
 
-// ---- stepping through a list
+// ---- stepping through a list, and copying one of numbers whole
 
 impl U16List {
     pub fn next(self, body: &[u8]) -> U16Next
@@ -320,6 +320,23 @@ impl U16List {
                 left: left - 1,
             },
         )
+    }
+
+    // What is left, all at once, into the first numbers of `out`.
+    pub fn copy(self, body: &[u8], out: &mut [u16]) -> Copied
+        ensures { λ r. ⌜ (copiedSays r, now (out .exit)) ≡ copyNumbers 2 (now (body .entry)) (self .at) (self .left) (now (out .entry)) ⌝ }
+    {
+        let at = self.at;
+        let left = self.left as usize;
+        let rest = left_from(body, at);
+        if rest < 2 * left {
+            return Copied::Refused(7); // the body ends in the list
+        }
+        if out.len() < left {
+            return Copied::Refused(13); // fewer numbers than the list has
+        }
+        copy_units(body, at, left, out);
+        Copied::Copied(left)
     }
 }
 
@@ -342,6 +359,22 @@ impl U32List {
                 left: left - 1,
             },
         )
+    }
+
+    pub fn copy(self, body: &[u8], out: &mut [u32]) -> Copied
+        ensures { λ r. ⌜ (copiedSays r, now (out .exit)) ≡ copyNumbers 4 (now (body .entry)) (self .at) (self .left) (now (out .entry)) ⌝ }
+    {
+        let at = self.at;
+        let left = self.left as usize;
+        let rest = left_from(body, at);
+        if rest < 4 * left {
+            return Copied::Refused(7);
+        }
+        if out.len() < left {
+            return Copied::Refused(13);
+        }
+        copy_u32s(body, at, left, out);
+        Copied::Copied(left)
     }
 }
 
@@ -388,7 +421,7 @@ impl Block {
     }
 }
 
-// ---- copying strings
+// ---- copying
 
 fn copy_bytes(body: &[u8], start: usize, n: usize, out: &mut [u8])
     requires { ⌜ (start + n ≤ length (now body)) × (n ≤ length (now out)) ⌝ }
@@ -402,13 +435,25 @@ fn copy_bytes(body: &[u8], start: usize, n: usize, out: &mut [u8])
 }
 
 fn copy_units(body: &[u8], start: usize, n: usize, out: &mut [u16])
-    requires { ⌜ (start + 2 * n ≤ length (now body)) × (n ≤ length (now out)) ⌝ }
+    requires { ⌜ (2 * n ≤ length (now body) - start) × (n ≤ length (now out)) ⌝ }
     ensures { λ r. ⌜ now (out .exit) ≡ unitsOf n (drop start (now (body .entry))) ++ drop n (now (out .entry)) ⌝ }
 {
     let mut i = 0;
     while i < n {
         let k = start + 2 * i;
         out[i] = join_2(body[k], body[k + 1]);
+        i += 1;
+    }
+}
+
+fn copy_u32s(body: &[u8], start: usize, n: usize, out: &mut [u32])
+    requires { ⌜ (4 * n ≤ length (now body) - start) × (n ≤ length (now out)) ⌝ }
+    ensures { λ r. ⌜ (took n, now (out .exit)) ≡ copyNumbers 4 (now (body .entry)) start n (now (out .entry)) ⌝ }
+{
+    let mut i = 0;
+    while i < n {
+        let k = start + 4 * i;
+        out[i] = join_4(body[k], body[k + 1], body[k + 2], body[k + 3]);
         i += 1;
     }
 }

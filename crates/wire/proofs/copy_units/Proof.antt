@@ -1,18 +1,17 @@
-use Prim.Native.Nat.{_+_, _-_, _≤_}
-use mathlib.Core.Path.{refl, _≡_, _∙_}
+use Prim.Native.Nat.{_+_, _-_, _*_, _≤_}
+use mathlib.Core.Path.{refl, _≡_}
 use mathlib.Core.List.{_++_}
 use native.Mathlib.Omega.{arith}
 use denote.Ref.{now}
 use borrow.Author.Needs.{needs}
-use lib.ListN.{length, take, drop, length-drop, length-set}
-use Rattle.format.specs.View.{unitsOf}
-use Rattle.wire.proofs.Strings.{length-units}
-use Rattle.wire.proofs.Copying.{copy-next, unit-there, all-units}
+use lib.ListN.{length, take, drop, length-set}
+use Rattle.wire.proofs.Numbers.{numbersAt, joined-2, units-numbers}
+use Rattle.wire.proofs.Copying.{number-next, all-numbers}
 use Rattle.wire.proofs.copy_units.Statement.{statement}
 use Rattle.wire.proofs.copy_units.Tie as tie
 
 abbrev Inv-loop : tie.InvT-loop
-Inv-loop body start n out₀ i₀ out i = (i ≤ n) × (length out ≡ length out₀) × (out ≡ take i (unitsOf n (drop start body)) ++ drop i out₀)
+Inv-loop body start n out₀ i₀ out i = (i ≤ n) × (length out ≡ length out₀) × (out ≡ take i (numbersAt 2 body start n) ++ drop i out₀)
 
 abbrev μ-loop : tie.MeasureT-loop
 μ-loop body start n out₀ i₀ out i = n - i
@@ -54,10 +53,8 @@ loop-again : tie.Need-loop-again Inv-loop μ-loop
 loop-again c =
     let a = c .before .before .before .before .before .before .before .args in
     let l = c .before .before .before .before .loop in
-    let x = unitsOf (a .n) (drop (a .start) (now (a .body))) in
-    let w = length-units (a .n) (drop (a .start) (now (a .body))) (omega (arith, length-drop (a .start) (now (a .body)))) in
-    let unit = c .join-2 .ensures ∙ unit-there (now (a .body)) (a .start) (a .n) (l .i) (omega arith) (omega arith) in
-    (omega arith, simp length-set (l .inv .1), copy-next (now (a .out)) x (omega (arith, w)) (omega arith) unit (l .inv .2))
+    let unit = joined-2 (now (a .body)) (a .start + 2 * l .i) (c .join-2 .ensures) in
+    (omega arith, simp length-set (l .inv .1), number-next 2 (now (a .body)) (a .start) (a .n) (now (a .out)) (omega arith) (omega arith) (omega arith) unit (l .inv .2))
 
 same-length : tie.Need-same-length Inv-loop μ-loop
 same-length c = search needs
@@ -67,7 +64,7 @@ returns c =
     let a = c .before .before .before .before .args in
     let l = c .before .loop in
     let e : l .i ≡ a .n = omega arith in
-    rw (e, all-units (now (a .body)) (a .start) (a .n) (omega arith)) at (l .inv .2)
+    rw (units-numbers (now (a .body)) (a .start) (a .n) (omega arith)) (all-numbers 2 (now (a .body)) (a .start) (a .n) (now (a .out)) e (l .inv .2))
 
 pub copy-units-spec : {M : Type 1} → statement M
 copy-units-spec =
