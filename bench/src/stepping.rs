@@ -1,4 +1,4 @@
-//! Lists read and stepped whole.
+//! Lists read and stepped whole; those of numbers also copied whole.
 use crate::bodies::Part;
 use crate::library;
 use crate::inputs::{body, Size, SMALL};
@@ -6,6 +6,7 @@ use crate::measure::Row;
 use crate::rows::{read, row};
 use crate::rust::Body;
 use citp::protocol::{caex, sdmx};
+use std::cell::RefCell;
 use std::hint::black_box;
 
 macro_rules! steps {
@@ -43,6 +44,13 @@ fn our_fixtures_sum(body: &[u8]) -> u64 {
     })
 }
 
+/// The items that a copy puts into lent output.
+fn copied<T>(out: &RefCell<Vec<T>>, copy: impl Fn(&mut [T]) -> library::Copied) -> u64 {
+    let mut out = out.borrow_mut();
+    let len = copy(&mut out).len;
+    black_box(&out[..len]).len() as u64
+}
+
 pub fn rows(rows: &mut Vec<Row>) {
     let of = |list| Size { list, ..SMALL };
     for lamps in [1, 100, 1_000] {
@@ -72,6 +80,30 @@ pub fn rows(rows: &mut Vec<Row>) {
                 let body = black_box(wide);
                 let m = library::fixture_remove_read(body);
                 steps!(body, u32_list_next, m.at, m.left, |x: &library::U32Next| x.value as u64)
+            },
+        );
+        let out = RefCell::new(vec![0; n]);
+        row(
+            rows,
+            "copied",
+            &format!("u16, {n}"),
+            || black_box(read::<sdmx::Capa>(&mut black_box(numbers)).capabilities).len() as u64,
+            move || {
+                let body = black_box(numbers);
+                let m = library::capa_read(body);
+                copied(&out, |out| library::u16_list_copy(body, m.at, m.left, out))
+            },
+        );
+        let out = RefCell::new(vec![0; n]);
+        row(
+            rows,
+            "copied",
+            &format!("u32, {n}"),
+            || black_box(read::<caex::FixtureRemove>(&mut black_box(wide)).fixture_identifiers).len() as u64,
+            move || {
+                let body = black_box(wide);
+                let m = library::fixture_remove_read(body);
+                copied(&out, |out| library::u32_list_copy(body, m.at, m.left, out))
             },
         );
         row(

@@ -79,6 +79,7 @@ fn targets(all: &Measured) {
     target("packets written: not slower than the Rust", 0.99, least(all, "written", |_| true));
     target("streams walked: not slower than the Rust", 0.99, least(all, "walked", |_| true));
     target("lists stepped: not slower than the Rust", 0.99, least(all, "stepped", |_| true));
+    target("lists of numbers copied: not slower than the Rust", 0.99, least(all, "copied", |_| true));
     target("lists, blocks and fixture lists read: 10 times faster", 10.0, least(all, "read", many));
     target(
         "fixture lists read and stepped: 10 times faster",
@@ -127,6 +128,7 @@ pub fn print(rows: &[Row], costs: &[Cost]) {
     walk(&all);
     by_size(&all, "read", "body read");
     plain(&all, "stepped", "read and stepped whole");
+    plain(&all, "copied", "read and copied whole");
     plain(&all, "walked", "walked");
     by_size(&all, "written", "packet written");
     plain(&all, "memchr", "a string's end, beside memchr");

@@ -28,7 +28,7 @@ fn part(body: &[u8], start: usize, len: usize) -> Option<&[u8]> {
     body.get(start..)?.get(..len)
 }
 
-/// The elements before the zero: 13 into one element less, which stay as they were, then copied into exactly so many.
+/// The elements of a string before the zero, or of a list: 13 into one element less, which stay as they were, then copied into exactly so many.
 fn copied<T: Copy + Default + PartialEq>(len: usize, copy: impl Fn(&mut [T]) -> library::Copied) -> Option<Vec<T>> {
     let mut out = vec![T::default(); len];
     if len > 0 {
@@ -71,7 +71,7 @@ impl Canon for Ucs2<'_> {
     }
 }
 
-// ---- lists: cursors stepped through
+// ---- lists: cursors stepped through; those of numbers also copied whole
 
 /// A body, the place of the next item, and the items left.
 struct List<'a, N>(&'a [u8], usize, u16, fn(&[u8], usize, u16) -> N);
@@ -123,8 +123,8 @@ macro_rules! lists {
     )* };
 }
 lists! {
-    u16_list, U16Next, u16_list_next, |m, _body| m.value;
-    u32_list, U32Next, u32_list_next, |m, _body| m.value;
+    u16_steps, U16Next, u16_list_next, |m, _body| m.value;
+    u32_steps, U32Next, u32_list_next, |m, _body| m.value;
     channel_levels, ChannelLevelNext, channel_levels_next, |m, _body|
         m.value.universe_index, m.value.channel, m.value.channel_level;
     identifiers, IdentifierNext, identifiers_next, |m, body|
@@ -151,6 +151,33 @@ lists! {
         m.data.angle_x,
         m.data.angle_y,
         m.data.angle_z;
+}
+
+/// A list of numbers, whose copy has what its steps give.
+struct Numbers<'a, N, T>(List<'a, N>, fn(&[u8], usize, u16, &mut [T]) -> library::Copied);
+
+impl<N: Next, T: Canon + Copy + Default + PartialEq> Canon for Numbers<'_, N, T> {
+    fn canon(&self, out: &mut Vec<u8>) {
+        let Numbers(List(body, at, left, _), copy) = *self;
+        let (mut steps, mut whole) = (Vec::new(), Vec::new());
+        self.0.canon(&mut steps);
+        match copied(left as usize, |out| copy(body, at, left, out)) {
+            Some(copy) => T::canon_list(&copy, &mut whole),
+            None => whole.extend_from_slice(WRONG),
+        }
+        out.extend_from_slice(&steps);
+        if steps != whole {
+            out.extend_from_slice(&whole);
+        }
+    }
+}
+
+fn u16_list(body: &[u8], at: usize, left: u16) -> Numbers<'_, library::U16Next, u16> {
+    Numbers(u16_steps(body, at, left), library::u16_list_copy)
+}
+
+fn u32_list(body: &[u8], at: usize, left: u16) -> Numbers<'_, library::U32Next, u32> {
+    Numbers(u32_steps(body, at, left), library::u32_list_copy)
 }
 
 // ---- bodies
