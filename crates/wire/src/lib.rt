@@ -423,12 +423,12 @@ impl Block {
 
 // ---- copying
 
-fn copy_bytes(body: &[u8], start: usize, n: usize, out: &mut [u8])
-    requires { ⌜ (start + n ≤ length (now body)) × (n ≤ length (now out)) ⌝ }
-    ensures { λ r. ⌜ now (out .exit) ≡ take n (drop start (now (body .entry))) ++ drop n (now (out .entry)) ⌝ }
+fn copy_bytes(body: &[u8], start: usize, len: usize, out: &mut [u8])
+    requires { ⌜ (start + len ≤ length (now body)) × (len ≤ length (now out)) ⌝ }
+    ensures { λ r. ⌜ now (out .exit) ≡ take len (drop start (now (body .entry))) ++ drop len (now (out .entry)) ⌝ }
 {
     let mut i = 0;
-    while i < n {
+    while i < len {
         out[i] = body[start + i];
         i += 1;
     }

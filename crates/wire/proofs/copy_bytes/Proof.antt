@@ -47,7 +47,7 @@ same-length : tie.Need-same-length Inv-loop μ-loop
 same-length c = search needs
 
 returns : tie.Need-returns Inv-loop μ-loop
-returns c = let a = c .before .before .args in let l = c .before .loop in let e : l .i ≡ a .n = omega arith in rw e at (l .inv .2)
+returns c = let a = c .before .before .args in let l = c .before .loop in let e : l .i ≡ a .len = omega arith in rw e at (l .inv .2)
 
 pub copy-bytes-spec : {M : Type 1} → statement M
 copy-bytes-spec =
