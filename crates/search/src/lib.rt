@@ -165,19 +165,17 @@ fn first_by_blocks(s: &[u8], from: usize) -> usize
     requires { do ⌜ from ≤ (← ⟦s.len()⟧) ⌝ }
     ensures { λ r. do ⌜ First (byteOf (now (s .entry))) from (← ⟦s.len()⟧ .entry) r ⌝ }
 {
-    let mut i = from;
-    while i < s.len() {
-        if s[i] == 0 {
-            return i;
-        }
-        let stop = smaller(i + 32 - i % 16, s.len());
-        let r = first_by_eights(s, i + 1, stop);
-        if r < stop {
-            return r;
-        }
-        i = pass_16(s, pass_256(s, stop));
+    if s.len() - from < 16 {
+        return first_one_by_one(s, from, s.len());
     }
-    i
+    let stop = smaller(from + 32 - from % 16, s.len());
+    let r = first_by_eights(s, from, stop);
+    if r < stop {
+        return r;
+    }
+    let i = pass_256(s, stop);
+    let i = pass_16(s, i);
+    first_one_by_one(s, i, s.len())
 }
 
 // The index of the first zero byte at or behind `at`; without one the length, or `at` where that is past the end.
