@@ -165,7 +165,7 @@ fn first_by_blocks(s: &[u8], from: usize) -> usize
     requires { do ⌜ from ≤ (← ⟦s.len()⟧) ⌝ }
     ensures { λ r. do ⌜ First (byteOf (now (s .entry))) from (← ⟦s.len()⟧ .entry) r ⌝ }
 {
-    if s.len() - from < 16 {
+    if s.len() - from < 8 {
         return first_one_by_one(s, from, s.len());
     }
     let stop = smaller(from + 32 - from % 16, s.len());
