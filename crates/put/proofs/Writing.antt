@@ -7,7 +7,7 @@ use native.Mathlib.Nat.{add-zero, add-suc, suc-add, mod-eq-of-lt}
 use native.Mathlib.Numerals.{add-one}
 use native.Mathlib.Omega.{arith}
 use borrow.Author.Tests.{ltb-true, ltb-false}
-use lib.ListN.{length, getD, set, take, length-append}
+use lib.ListN.{length, getD, set, take, length-set, length-append}
 use lib.Seq.{sets, length-sets, set-out, take-suc, take-all}
 use lib.Dec.{ltb}
 use Rattle.format.specs.Format.{Format, Value, number, code, list, _&_, encode, encodeNumber, concatMap}
@@ -49,6 +49,13 @@ put-then {xs} {ys} {o} {o₁} {o₂} {p} {q} {r} a b = record {
         (λ h. ap (λ (k : ℕ). sets (sets o p xs) k ys) (a .stops ∙ omega arith))
         (λ h. sets-past ys (sets o p xs) q (omega (arith, length-sets o p xs, a .stops))
         ∙ sym (sets-past ys (sets o p xs) (p + length xs) (omega (arith, length-sets o p xs))))
+
+-- a byte, and two, stored where there is room
+put-set : {a p q : ℕ} {o : List ℕ} → p < length o → q ≡ p + 1 → Puts (a ∷ []) p o q (set o p a)
+put-set h e = record { stops = omega arith; stored = refl }
+
+pub put-sets : {a b p q r : ℕ} {o : List ℕ} → p + 2 ≤ length o → q ≡ p + 1 → r ≡ p + 2 → Puts (a ∷ b ∷ []) p o r (set (set o p a) q b)
+put-sets {a} {b} {p} {q} {r} {o} h e f = put-then (put-set {a = a} (omega arith) e) (put-set {a = b} {o = set o p a} (omega (arith, length-set o p a)) (omega arith))
 
 -- where there is room the write stops behind its bytes
 pub put-whole : {bs o o′ : List ℕ} {p r : ℕ} → Puts bs p o r o′ → p + length bs ≤ length o → r ≡ p + length bs

@@ -1,8 +1,9 @@
 // Writes values at a place of lent output, sizes them, and weighs whether a write is taken.
-ghost use Prim.Native.Nat.{_+_};
+ghost use Prim.Native.Nat.{_+_, _≤_};
 ghost use mathlib.Core.Path.{_≡_};
 ghost use mathlib.Core.Bool.{_||_};
 ghost use mathlib.Core.List.{[], _∷_};
+ghost use lib.ListN.{length};
 ghost use Rattle.format.specs.Format.{number, cstring, ucs2, list, encodeNumber, concatMap, size};
 ghost use Rattle.format.specs.Fault.{holdsZero, tooLong};
 ghost use Rattle.put.specs.Put.{Puts, Writes, capped, Weighs};
@@ -29,6 +30,27 @@ fn put_byte(out: &mut [u8], at: usize, n: u8) -> usize
     at
 }
 
+// A number where there is room for it: behind one test of the room the compiler stores its bytes at once.
+fn store_2(out: &mut [u8], at: usize, n: usize) -> usize
+    requires { ⌜ at + 2 ≤ length (now out) ⌝ }
+    ensures { λ r. ⌜ Writes (number 2) n at (now (out .entry)) r (now (out .exit)) ⌝ }
+{
+    out[at] = (n % 256) as u8;
+    out[at + 1] = (n / 256 % 256) as u8;
+    at + 2
+}
+
+fn store_4(out: &mut [u8], at: usize, n: usize) -> usize
+    requires { ⌜ at + 4 ≤ length (now out) ⌝ }
+    ensures { λ r. ⌜ Writes (number 4) n at (now (out .entry)) r (now (out .exit)) ⌝ }
+{
+    out[at] = (n % 256) as u8;
+    out[at + 1] = (n / 256 % 256) as u8;
+    out[at + 2] = (n / 256 / 256 % 256) as u8;
+    out[at + 3] = (n / 256 / 256 / 256 % 256) as u8;
+    at + 4
+}
+
 // The lowest byte of n; then two, then four, the lowest first.
 pub fn put_number_1(out: &mut [u8], at: usize, n: usize) -> usize
     ensures { λ r. ⌜ Writes (number 1) n at (now (out .entry)) r (now (out .exit)) ⌝ }
@@ -39,6 +61,11 @@ pub fn put_number_1(out: &mut [u8], at: usize, n: usize) -> usize
 pub fn put_number_2(out: &mut [u8], at: usize, n: usize) -> usize
     ensures { λ r. ⌜ Writes (number 2) n at (now (out .entry)) r (now (out .exit)) ⌝ }
 {
+    if at < out.len() {
+        if 2 <= out.len() - at {
+            return store_2(out, at, n);
+        }
+    }
     let at = put_byte(out, at, (n % 256) as u8);
     put_byte(out, at, (n / 256 % 256) as u8)
 }
@@ -46,6 +73,11 @@ pub fn put_number_2(out: &mut [u8], at: usize, n: usize) -> usize
 pub fn put_number_4(out: &mut [u8], at: usize, n: usize) -> usize
     ensures { λ r. ⌜ Writes (number 4) n at (now (out .entry)) r (now (out .exit)) ⌝ }
 {
+    if at < out.len() {
+        if 4 <= out.len() - at {
+            return store_4(out, at, n);
+        }
+    }
     let at = put_byte(out, at, (n % 256) as u8);
     let at = put_byte(out, at, (n / 256 % 256) as u8);
     let at = put_byte(out, at, (n / 256 / 256 % 256) as u8);

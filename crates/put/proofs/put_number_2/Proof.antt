@@ -4,12 +4,24 @@ use Rattle.put.proofs.Writing.{put-then}
 use Rattle.put.proofs.put_number_2.Statement.{statement}
 use Rattle.put.proofs.put_number_2.Tie as tie
 
-returns : tie.Need-returns
+returns-2 : tie.Need-returns-2
 unfolding encode encodeNumber
-returns c =
+returns-2 c =
     let b = c .before .before in
     let a = b .before .before .before .before in
     record { writes = put-then (a .put-byte .ensures) (b .put-byte2 .ensures) }
 
 pub put-number-2-spec : {M : Type 1} → statement M
-put-number-2-spec = tie.close (tie.spec (λ c. search needs) (λ c κs. tt) (λ c. search needs) (λ c κs. tt) (λ c. search needs) returns)
+put-number-2-spec =
+    tie.close
+    (tie.spec
+    (λ c. search needs)
+    (λ c κs. search needs)
+    (λ c. search needs)
+    (λ c. search needs)
+    (λ c. search needs)
+    (λ c κs. tt)
+    (λ c. search needs)
+    (λ c κs. tt)
+    (λ c. search needs)
+    returns-2)

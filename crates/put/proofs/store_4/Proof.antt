@@ -1,0 +1,31 @@
+use borrow.Author.Needs.{needs}
+use lib.ListN.{length-set}
+use native.Mathlib.Omega.{arith}
+use mathlib.Core.Path.{refl}
+use Rattle.format.specs.Format.{encode, encodeNumber}
+use Rattle.put.proofs.Writing.{put-then, put-sets}
+use Rattle.put.proofs.store_4.Statement.{statement}
+use Rattle.put.proofs.store_4.Tie as tie
+
+returns : tie.Need-returns
+unfolding encode encodeNumber
+returns c = record { writes = put-then (put-sets (omega arith) refl refl) (put-sets (simp length-set (omega arith)) (omega arith) (omega arith)) }
+
+pub store-4-spec : {M : Type 1} → statement M
+store-4-spec =
+    tie.close
+    (tie.spec
+    (λ c. search needs)
+    (λ c. search needs)
+    (λ c. search needs)
+    (λ c. search needs)
+    (λ c. simp length-set (omega arith))
+    (λ c. search needs)
+    (λ c. search needs)
+    (λ c. simp length-set (omega arith))
+    (λ c. search needs)
+    (λ c. search needs)
+    (λ c. simp length-set (omega arith))
+    (λ c. search needs)
+    (λ c. search needs)
+    returns)
