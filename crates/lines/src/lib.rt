@@ -27,11 +27,7 @@ pub fn put_cstring(
 ) -> usize
     ensures { λ r. ⌜ Lists from (bytes (now (name .entry))) (now (body .entry)) (x .start, x .len) at (now (out .entry)) r (now (out .exit)) ⌝ }
 {
-    let range = Block {
-        start: x.start,
-        len: x.len,
-    };
-    put_escaped_line(out, from, at, name, range.bytes(body))
+    put_escaped_line(out, from, at, name, x.bytes(body))
 }
 
 pub fn put_ucs2(out: &mut [u8], from: u32, at: usize, name: &[u8], x: Ucs2, body: &[u8]) -> usize

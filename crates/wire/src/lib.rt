@@ -421,6 +421,19 @@ impl Block {
     }
 }
 
+impl CString {
+    // The string's bytes without its zero, as far as the body reaches.
+    pub fn bytes(self, body: &[u8]) -> &[u8]
+        ensures { λ r. ⌜ now r ≡ take (self .len) (drop (self .start) (now (body .entry))) ⌝ }
+    {
+        let range = Block {
+            start: self.start,
+            len: self.len,
+        };
+        range.bytes(body)
+    }
+}
+
 // ---- copying
 
 fn copy_bytes(body: &[u8], start: usize, len: usize, out: &mut [u8])
