@@ -6,7 +6,7 @@ use mathlib.Core.List.{List}
 use native.Mathlib.Nat.{suc-ne-zero}
 use native.Mathlib.Omega.{arith}
 use borrow.Author.Tests.{ne-eqb, le-ltb, ltb-false}
-use lib.ListN.{length, take, drop, length-drop, drop-of-length-le}
+use lib.ListN.{length, take, drop, length-take, length-drop, drop-of-length-le}
 use lib.Seq.{take-all, length-take-le}
 use lib.Dec.{eqb, ltb}
 use Rattle.format.specs.Format.{Value, Read, got, refused, pick, decode}
@@ -99,17 +99,20 @@ module _ (s : List ℕ) (at : ℕ) where
       on zero z = absurd (z refl)
       on (suc n) z = refl
 
-  -- the packet is cut out whole
-  pub packet-whole : (h : Value header) {n : ℕ} → n ≡ startNumber h (length left) → n ≡ 0 → sizeField h ≡ length (take (sizeField h) left)
-  packet-whole h m z = sym (length-take-le (sizeField h) left (start-fits h (length left) (sym m ∙ z) .1))
+  -- the packet is there whole
+  pub packet-whole : (h : Value header) {n : ℕ} → n ≡ startNumber h (length left) → n ≡ 0 → sizeField h ≤ length left
+  packet-whole h m z = start-fits h (length left) (sym m ∙ z) .1
 
-  pub step-packet : {h : Value header} {e n end : ℕ} {x : Content View} → view header left 0 ≡ seen h e → n ≡ startNumber h (length left) → n ≡ 0
-      → end ≡ at + sizeField h → (let p = take (sizeField h) left in x ≡ contentAt (end - length p) h p)
+  pub packet-before : (h : Value header) {p : List ℕ} → p ≡ take (sizeField h) left → length p ≤ at + sizeField h
+  packet-before h c = rw (c, length-take) (omega arith)
+
+  pub step-packet : {h : Value header} {e n end : ℕ} {p : List ℕ} {x : Content View} → view header left 0 ≡ seen h e → n ≡ startNumber h (length left) → n ≡ 0
+      → end ≡ at + sizeField h → p ≡ take (sizeField h) left → x ≡ contentAt (end - length p) h p
       → report (record { offset = at; size = sizeField h; request = requestField h; content = x }) end ≡ stepAt s at
-  step-packet {h} {e} {n} {end} {x} q m z f is =
+  step-packet {h} {e} {n} {end} {p} {x} q m z f c is =
       let starts : startNumber h (length (drop at s)) ≡ 0 = sym (ap (λ (r : List ℕ). startNumber h (length r)) left-is) ∙ sym m ∙ z in
       let fits = start-fits h (length (drop at s)) starts in
       let whole : length (take (sizeField h) (drop at s)) ≡ sizeField h = length-take-le (sizeField h) (drop at s) (fits .1) in
       let start : at + sizeField h - sizeField h ≡ at = omega arith in
-      let held : x ≡ contentAt at h (take (sizeField h) (drop at s)) = is ∙ rw (left-is, whole, f, start) in
+      let held : x ≡ contentAt at h (take (sizeField h) (drop at s)) = is ∙ rw (c, left-is, whole, f, start) in
       rw (held, f) (sym (begins q ∙ ap (begun at (drop at s) h) starts))

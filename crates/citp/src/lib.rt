@@ -1,7 +1,7 @@
 // The walk over a stream of packets: one step, its report, and the body that a report speaks of.
 ghost use mathlib.Core.Path.{_≡_};
 ghost use Prim.Native.Nat.{_-_, _+_, _≤_};
-ghost use lib.ListN.{length, drop};
+ghost use lib.ListN.{length, take, drop};
 ghost use Rattle.protocol.specs.Layer as layer;
 ghost use Rattle.protocol.specs.Kind.{layer as layerOfKind};
 ghost use Rattle.protocol.specs.Layer.{cookie, headerLength, layerOf};
@@ -263,6 +263,14 @@ fn packet_report(h: Header, end: usize, packet: &[u8]) -> Report
     layer_report(layer, end, packet)
 }
 
+// The packet with which the rest of a stream starts.
+fn first_packet(rest: &[u8], size: usize) -> &[u8]
+    requires { ⌜ size ≤ length (now rest) ⌝ }
+    ensures { λ r. ⌜ now r ≡ take size (now (rest .entry)) ⌝ }
+{
+    &rest[..size]
+}
+
 // Whether a packet may start with this header where so many bytes are left: 0, or 2 to 5.
 fn packet_start(h: Header, left: usize) -> u8
     ensures { λ r. ⌜ r ≡ startNumber (headerValue h) left ⌝ }
@@ -358,8 +366,7 @@ impl Cursor {
         }
         let size = h.message_size as usize;
         let end = at + size;
-        let packet = &rest[..size];
-        let report = packet_report(h, end, packet);
+        let report = packet_report(h, end, first_packet(rest, size));
         Step::Packet(
             PacketReport {
                 offset: at,
