@@ -1,9 +1,9 @@
 // The lines of messages of CAEX, put at a place of a listing. Lent output holds it from a character on, as far as it reaches;
 // each function answers the place behind its text, or the output's end.
+ghost use mathlib.Core.List.{_++_};
 ghost use mathlib.Core.Option.{none};
 ghost use Rattle.text.specs.Prints.{Prints};
 ghost use Rattle.protocol.specs.Kind as kind;
-ghost use Rattle.floats.specs.Pattern.{patternOf};
 ghost use Rattle.text.specs.Text.{hex, line};
 ghost use Rattle.lines.specs.Lines.{itemLines, Lists};
 ghost use Rattle.caex.specs.Says as caexSays;
@@ -82,42 +82,37 @@ fn put_identifiers(out: &mut [u8], from: u32, at: usize, list: Identifiers, body
 
 // ---- the data of a fixture
 
-fn put_float(out: &mut [u8], from: u32, at: usize, name: &[u8], x: f32, beside: u32) -> usize
-    ensures { λ r. ⌜ Prints from (line (now (name .entry)) (hex 8 (patternOf x beside))) at (now (out .entry)) r (now (out .exit)) ⌝ }
+// Three floats under one name, by their bits.
+fn put_vector(out: &mut [u8], from: u32, at: usize, name: &[u8], x: u32, y: u32, z: u32) -> usize
+    ensures { λ r. ⌜ Prints from (line (now (name .entry)) (hex 8 x) ++ (line (now (name .entry)) (hex 8 y) ++ line (now (name .entry)) (hex 8 z))) at (now (out .entry)) r (now (out .exit)) ⌝ }
 {
-    put_hex_line(out, from, at, name, pattern_of(x, beside) as usize)
-}
-
-fn put_angles(
-    out: &mut [u8],
-    from: u32,
-    at: usize,
-    x: FixtureData,
-    strings: FixtureDataStrings,
-    body: &[u8],
-) -> usize
-    ensures { λ r. ⌜ Lists from (names.vectorOf "angles") (now (body .entry)) (fixtureSays.dataView x strings .1 .1 .1 .1 .1 .1 .1 .1 .1 .1) at (now (out .entry)) r (now (out .exit)) ⌝ }
-{
-    let at = put_float(out, from, at, b"angles", x.angle_x, x.bits.angle_x);
-    let at = put_float(out, from, at, b"angles", x.angle_y, x.bits.angle_y);
-    put_float(out, from, at, b"angles", x.angle_z, x.bits.angle_z)
+    let at = put_hex_line(out, from, at, name, x as usize);
+    let at = put_hex_line(out, from, at, name, y as usize);
+    put_hex_line(out, from, at, name, z as usize)
 }
 
 // Position and angles.
-fn put_floats(
-    out: &mut [u8],
-    from: u32,
-    at: usize,
-    x: FixtureData,
-    strings: FixtureDataStrings,
-    body: &[u8],
-) -> usize
-    ensures { λ r. ⌜ Lists from names.floats (now (body .entry)) (fixtureSays.dataView x strings .1 .1 .1 .1 .1 .1 .1) at (now (out .entry)) r (now (out .exit)) ⌝ }
+fn put_floats(out: &mut [u8], from: u32, at: usize, x: FixtureData, body: &[u8]) -> usize
+    ensures { λ r. ⌜ Lists from names.floats (now (body .entry)) (fixtureSays.dataNumbers x .4) at (now (out .entry)) r (now (out .exit)) ⌝ }
 {
-    let at = put_float(out, from, at, b"position", x.position_x, x.bits.position_x);
-    let at = put_float(out, from, at, b"position", x.position_y, x.bits.position_y);
-    let at = put_float(out, from, at, b"position", x.position_z, x.bits.position_z);
-    put_angles(out, from, at, x, strings, body)
+    let at = put_vector(
+        out,
+        from,
+        at,
+        b"position",
+        pattern_of(x.position_x, x.bits.position_x),
+        pattern_of(x.position_y, x.bits.position_y),
+        pattern_of(x.position_z, x.bits.position_z),
+    );
+    put_vector(
+        out,
+        from,
+        at,
+        b"angles",
+        pattern_of(x.angle_x, x.bits.angle_x),
+        pattern_of(x.angle_y, x.bits.angle_y),
+        pattern_of(x.angle_z, x.bits.angle_z),
+    )
 }
 
 // The fields from `circuit` on.
@@ -133,7 +128,7 @@ fn put_from_circuit(
 {
     let at = put_ucs2(out, from, at, b"circuit", strings.circuit, body);
     let at = put_ucs2(out, from, at, b"note", strings.note, body);
-    put_floats(out, from, at, x, strings, body)
+    put_floats(out, from, at, x, body)
 }
 
 // The fields from `unit` on.

@@ -1,7 +1,7 @@
 -- The lines of a message as a write of its parts.
 use Prim.Native.Nat.{ℕ}
 use mathlib.Core.Path.{_≡_}
-use mathlib.Core.List.{List}
+use mathlib.Core.List.{List, _++_, append-assoc}
 use mathlib.Core.Option.{Option, none, some}
 use Rattle.format.specs.View.{View}
 use Rattle.protocol.specs.Kind.{Kind, bodyOf}
@@ -13,16 +13,15 @@ use Rattle.lines.proofs.Fields.{fields}
 use Rattle.names.specs.Names.{listed, kindName}
 use Rattle.names.specs.Messages.{messageLines}
 
-pub put-message : {from : ℕ} (k : Kind) {v : View (bodyOf k)} {s o o₁ o₂ : List ℕ} {p q r : ℕ}
-    → Prints from (line (chars "kind") (chars (kindName k))) p o q o₁ → Lists from (listed k) s v q o₁ r o₂ → Prints from (messageLines k none s v) p o r o₂
-unfolding messageLines
-put-message k a b = put-then a (b .puts)
+module _ {from : ℕ} (k : Kind) {v : View (bodyOf k)} {name s o o₁ o₂ : List ℕ} {p q r : ℕ} where
+  pub put-message : name ≡ chars (kindName k) → Prints from (line (chars "kind") name) p o q o₁ → Lists from (listed k) s v q o₁ r o₂ → Prints from (messageLines k none s v) p o r o₂
+  unfolding messageLines
+  put-message e a b = put-then (rw e at a) (b .puts)
 
-pub put-hinted : {from : ℕ} (k : Kind) (hint : ℕ) {v : View (bodyOf k)} {s o o₁ o₂ o₃ : List ℕ} {p q r t : ℕ}
-    → Prints from (line (chars "kind") (chars (kindName k))) p o q o₁ → Prints from (line (chars "content_hint") (decimal hint)) q o₁ r o₂ → Lists from (listed k) s v r o₂ t o₃
-    → Prints from (messageLines k (some hint) s v) p o t o₃
-unfolding messageLines
-put-hinted k hint a b d = put-then a (put-then b (d .puts))
+  pub put-hinted : (hint : ℕ) → name ≡ chars (kindName k) → Prints from (line (chars "kind") name ++ line (chars "content_hint") (decimal hint)) p o q o₁
+      → Lists from (listed k) s v q o₁ r o₂ → Prints from (messageLines k (some hint) s v) p o r o₂
+  unfolding messageLines
+  put-hinted hint e a b = rw (← append-assoc) (put-then (rw e at a) (b .puts))
 
 -- a message of a layer by its case
 module _ {M : Type 0} (kindOf : M → Kind) (viewOf : (m : M) → View (bodyOf (kindOf m))) where

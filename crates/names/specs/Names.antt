@@ -45,11 +45,8 @@ blockOf name = block (chars name ++ chars ".count") (chars name)
 abbrev pub identifier : Listed identifierFormat
 identifier = typeOf "identifier_type" and digits (chars "data_size") (chars "data")
 
-abbrev pub vectorOf : String → Listed (number 4 & number 4 & number 4)
-vectorOf name = floatOf name and floatOf name and floatOf name
-
 abbrev pub floats : Listed (number 4 & number 4 & number 4 & number 4 & number 4 & number 4)
-floats = floatOf "position" and floatOf "position" and floatOf "position" and vectorOf "angles"
+floats = floatOf "position" and floatOf "position" and floatOf "position" and floatOf "angles" and floatOf "angles" and floatOf "angles"
 
 abbrev pub fromCircuit : Listed (ucs2 & ucs2 & number 4 & number 4 & number 4 & number 4 & number 4 & number 4)
 fromCircuit = ucs2Of "circuit" and ucs2Of "note" and floats

@@ -1,7 +1,7 @@
 use borrow.Author.Needs.{needs}
-use Rattle.names.proofs.Messages.{messages}
+use Rattle.lines.proofs.Fields.{fields}
 use Rattle.caex_messages.proofs.put_fixtures.Statement.{statement}
 use Rattle.caex_messages.proofs.put_fixtures.Tie as tie
 
 pub put-fixtures-spec : {M : Type 1} → statement M
-put-fixtures-spec = tie.close (tie.spec (λ c. search needs) (λ c. search needs) (λ c κs. tt) (λ c κs. tt) (λ c. search needs) (λ c. search messages))
+put-fixtures-spec = tie.close (tie.spec (λ c. search needs) (λ c. search needs) (λ c κs. tt) (λ c κs. tt) (λ c. search needs) (λ c. search fields))
