@@ -1,4 +1,4 @@
-//! Stored samples of the Rust's answers: records for crates/replay, packets for crates/replay_writes. A record: the length of what follows (u16), the kind's
+//! Stored samples of the Rust's answers: records for crates/replay, packets for examples/rewrite.c. A record: the length of what follows (u16), the kind's
 //! place in the list of kinds (u8), the body's length (u16), the body, the refusal that is due (u8; 0: read, 7: 7 or
 //! 8) and, if it is to be read, the bytes taken (u32) and the canonical bytes. Numbers are little-endian. The Rust
 //! writes each value read again as the bytes taken.
@@ -79,9 +79,6 @@ pub fn records<T: Body>(kind: u8) -> Vec<Vec<u8>> {
 /// Packets of each kind, at most.
 const PACKETS: usize = 50;
 
-/// The kinds whose calls are not one a body, or take records.
-const NOT_FLAT: [&str; 2] = ["FixtureList", "ChLs"];
-
 /// The Rust's packets of values that it read.
 pub fn packets<T: Body + Writes>() -> Vec<Vec<u8>> {
     let packet = |body: &Vec<u8>| match read::<T>(body) {
@@ -95,8 +92,7 @@ pub fn packets<T: Body + Writes>() -> Vec<Vec<u8>> {
 }
 
 pub fn write_packets(out: &mut dyn Write) -> std::io::Result<()> {
-    let flat = KINDS.iter().filter(|kind| !NOT_FLAT.contains(&kind.name));
-    flat.flat_map(|kind| (kind.packets)()).try_for_each(|packet| out.write_all(&packet))
+    KINDS.iter().flat_map(|kind| (kind.packets)()).try_for_each(|packet| out.write_all(&packet))
 }
 
 pub fn write(out: &mut dyn Write) -> std::io::Result<()> {

@@ -1,332 +1,246 @@
-// Runs the edges of the scope that are not among the proved examples, and those beside them: what each is, what is expected and what it gives.
+// Runs the edges of the scope that are not among the proved examples, and those beside them. Standard input has the packets to read, one to a
+// line; what is written stands below. The file stdout has what each must give.
+ghost use mathlib.Core.Path.{_≡_};
+ghost use Prim.Native.Nat.{_≤_};
+ghost use lib.ListN.{length};
 use citp::Cursor;
 use citp::Message;
 use citp::PacketReport;
 use citp::Report;
 use citp::Step;
+use fixture::Fixtures;
 use fixture::FixturesNext;
 use fixture::Identifier;
 use fixture::IdentifierType;
+use fixture::Identifiers;
 use fixture::IdentifiersNext;
+use libc::STDIN_FILENO;
 use libc::STDOUT_FILENO;
+use sdmx::ChannelLevel;
 use turns::Kind;
+use wire::Block;
 use writer::Writer;
 use writer::Written;
 
-// ---- what an edge gives: a word, and a number that the word speaks of
+// ---- lines of a label and a number: what is written, and, set in, what an edge gives
 
-enum Word {
-    // the number with which the walk ends
-    Stop,
-    // the number of the refusal, of a packet or of a call
-    Refused,
-    // the packet's size
-    UnknownLayer,
-    UnknownKind,
-    // the packet's part
-    Fragment,
-    // the count of added bytes
-    Message,
-    // the identifier's type
-    NoData,
-    // the size of the identifier's data
-    Data,
-    // the size of what is written
-    Written,
-}
+type Label = [u8; 24];
 
-impl Word {
-    fn code(self) -> u8 {
-        match self {
-            Word::Stop => 0,
-            Word::Refused => 1,
-            Word::UnknownLayer => 2,
-            Word::UnknownKind => 3,
-            Word::Fragment => 4,
-            Word::Message => 5,
-            Word::NoData => 6,
-            Word::Data => 7,
-            Word::Written => 8,
-        }
-    }
+const IDENTIFIER_DATA: Label = *b"identifier data         ";
 
-    fn show(self) {
-        match self {
-            Word::Stop => text(b"stop"),
-            Word::Refused => text(b"refused"),
-            Word::UnknownLayer => text(b"unknown layer, size"),
-            Word::UnknownKind => text(b"unknown kind, size"),
-            Word::Fragment => text(b"fragment, part"),
-            Word::Message => text(b"message, added"),
-            Word::NoData => text(b"no data, identifier_type"),
-            Word::Data => text(b"data_size"),
-            Word::Written => text(b"written, size"),
-        }
-    }
-}
+const CAPABILITIES: Label = *b"capabilities            ";
 
-struct Outcome {
-    word: Word,
-    number: u64,
-}
+const CHANNEL_LEVELS: Label = *b"channel levels          ";
 
-fn gives(word: Word, number: u64) -> Outcome {
-    Outcome { word, number }
-}
+const FEED_NAMES: Label = *b"laser feed names        ";
 
-// ---- the lines and their count
+const POINTS: Label = *b"laser points            ";
+
+const ROOM: Label = *b"  room                  ";
+
+const WRITTEN: Label = *b"  written, size         ";
+
+const STOP: Label = *b"  stop                  ";
+
+const REFUSED: Label = *b"  refused               ";
+
+const UNKNOWN_LAYER: Label = *b"  unknown layer, size   ";
+
+const UNKNOWN_KIND: Label = *b"  unknown kind, size    ";
+
+const FRAGMENT: Label = *b"  fragment, part        ";
+
+const MESSAGE: Label = *b"  message, added        ";
+
+const IDENTIFIER_TYPE: Label = *b"  identifier_type       ";
+
+const DATA_SIZE: Label = *b"  data_size             ";
 
 fn text(s: &[u8]) {
     io::write_all(STDOUT_FILENO, s);
 }
 
-fn show(before: &[u8], word: Word, number: u64) {
-    text(before);
-    word.show();
-    text(b" ");
+fn show(label: Label, number: u64) {
+    text(&label);
     io::print_decimal(STDOUT_FILENO, number);
-}
-
-struct Tally {
-    ok: u64,
-    wrong: u64,
-}
-
-impl Tally {
-    fn counted(self, right: bool) -> Tally {
-        if right {
-            return Tally {
-                ok: std::num::wrapping_add_u64(self.ok, 1),
-                wrong: self.wrong,
-            };
-        }
-        Tally {
-            ok: self.ok,
-            wrong: std::num::wrapping_add_u64(self.wrong, 1),
-        }
-    }
-
-    fn edge(self, what: &[u8], word: Word, number: u64, got: Outcome) -> Tally {
-        let found = got.word;
-        text(what);
-        show(b": expected ", word, number);
-        show(b"; got ", found, got.number);
-        text(b"\n");
-        if word.code() == found.code() {
-            return self.counted(number == got.number);
-        }
-        self.counted(false)
-    }
-
-    fn show(self) {
-        text(b"ok=");
-        io::print_decimal(STDOUT_FILENO, self.ok);
-        text(b" wrong=");
-        io::print_decimal(STDOUT_FILENO, self.wrong);
-        text(b"\n");
-    }
+    text(b"\n");
 }
 
 // ---- a packet read
 
-fn of_report(report: Report, size: u64) -> Outcome {
-    match report {
-        Report::Message(_, _, added) => gives(Word::Message, added as u64),
-        Report::UnknownLayer(_) => gives(Word::UnknownLayer, size),
-        Report::UnknownKind(_, _) => gives(Word::UnknownKind, size),
-        Report::Fragment(part, _) => gives(Word::Fragment, part as u64),
-        Report::Refused(n) => gives(Word::Refused, n as u64),
-    }
-}
-
-fn read(s: &[u8]) -> Outcome {
-    match Cursor::new().step(s) {
-        Step::Packet(p, _) => {
-            let report = p.report;
-            of_report(report, p.size as u64)
-        }
-        Step::End(n, _) => gives(Word::Stop, n as u64),
-    }
-}
-
-// Scope, 'Edges': message_size 19: 4; 20 with an unknown layer: unknown; 23 with SDMX: 6.
-// 'Where a call stops': 4 below 20 or above 16,777,216; 5 above the bytes left; 6 shorter than its headers.
-fn size_edges(t: Tally) -> Tally {
-    let got = read(b"CITP\x01\0\0\0\x13\0\0\0\x01\0\0\0MSEX");
-    let t = t.edge(b"message_size 19", Word::Stop, 4, got);
-    let got = read(b"CITP\x01\0\0\0\x14\0\0\0\x01\0\0\0MSEX");
-    let t = t.edge(
-        b"message_size 20, unknown layer",
-        Word::UnknownLayer,
-        20,
-        got,
-    );
-    let got = read(b"CITP\x01\0\0\0\x15\0\0\0\x01\0\0\0MSEX");
-    let t = t.edge(b"message_size 21 of 20 bytes", Word::Stop, 5, got);
-    let got = read(b"CITP\x01\0\0\0\0\0\0\x01\x01\0\0\0MSEX");
-    let t = t.edge(b"message_size 16777216 of 20 bytes", Word::Stop, 5, got);
-    let got = read(b"CITP\x01\0\0\0\x01\0\0\x01\x01\0\0\0MSEX");
-    t.edge(b"message_size 16777217", Word::Stop, 4, got)
-}
-
-// 'Layer headers': 24 bytes with the base.
-fn header_edges(t: Tally) -> Tally {
-    let got = read(b"CITP\x01\0\0\0\x14\0\0\0\x01\0\0\0SDMX");
-    let t = t.edge(b"message_size 20, SDMX", Word::Refused, 6, got);
-    let got = read(b"CITP\x01\0\0\0\x17\0\0\0\x01\0\0\0SDMXUNa");
-    let t = t.edge(b"message_size 23, SDMX", Word::Refused, 6, got);
-    let got = read(b"CITP\x01\0\0\0\x18\0\0\0\x01\0\0\0SDMXUNam");
-    let t = t.edge(b"message_size 24, SDMX UNam", Word::Refused, 7, got);
-    let got = read(b"CITP\x01\0\0\0\x18\0\0\0\x01\0\0\0SDMXUNaM");
-    t.edge(
-        b"message_size 24, SDMX, no kind",
-        Word::UnknownKind,
-        24,
-        got,
-    )
-}
-
-// FPTC 28.
-fn fptc_header_edges(t: Tally) -> Tally {
-    let got = read(b"CITP\x01\0\0\0\x1b\0\0\0\x01\0\0\0FPTCUPtc\0\0\0");
-    let t = t.edge(b"message_size 27, FPTC", Word::Refused, 6, got);
-    let got = read(b"CITP\x01\0\0\0\x1c\0\0\0\x01\0\0\0FPTCUPtc\0\0\0\0");
-    t.edge(b"message_size 28, FPTC UPtc", Word::Refused, 7, got)
-}
-
-// ---- an identifier read
-
-fn first_identifier(p: PacketReport, s: &[u8]) -> IdentifiersNext {
-    let report = p.report;
-    let body = p.body(s);
-    let Report::Message(message, _, _) = report else {
-        return IdentifiersNext::Done;
+fn show_identifier(identifiers: Identifiers, body: &[u8]) {
+    let IdentifiersNext::Item(x, _) = identifiers.next(body) else {
+        return;
     };
+    let identifier_type = x.identifier_type;
+    show(IDENTIFIER_TYPE, identifier_type.code() as u64);
+    show(DATA_SIZE, x.data_size() as u64);
+}
+
+fn show_fixture(fixtures: Fixtures, body: &[u8]) {
+    let FixturesNext::Item(fixture, _) = fixtures.next(body) else {
+        return;
+    };
+    show_identifier(fixture.identifiers, body);
+}
+
+// Of a fixture list the first identifier of its first fixture.
+fn show_message(message: Message, body: &[u8]) {
     let Message::Caex(message) = message else {
-        return IdentifiersNext::Done;
+        return;
     };
     let caex::Message::FixtureList(list) = message else {
-        return IdentifiersNext::Done;
+        return;
     };
-    let fixtures = list.fixtures;
-    let FixturesNext::Item(fixture, _) = fixtures.next(body) else {
-        return IdentifiersNext::Done;
+    show_fixture(list.fixtures, body);
+}
+
+fn show_packet(p: PacketReport, s: &[u8]) {
+    let report = p.report;
+    match report {
+        Report::Message(message, _, added) => {
+            show(MESSAGE, added as u64);
+            show_message(message, p.body(s));
+        }
+        Report::UnknownLayer(_) => show(UNKNOWN_LAYER, p.size as u64),
+        Report::UnknownKind(_, _) => show(UNKNOWN_KIND, p.size as u64),
+        Report::Fragment(part, _) => show(FRAGMENT, part as u64),
+        Report::Refused(n) => show(REFUSED, n as u64),
+    }
+}
+
+fn read(s: &[u8]) {
+    match Cursor::new().step(s) {
+        Step::Packet(p, _) => show_packet(p, s),
+        Step::End(n, _) => show(STOP, n as u64),
+    }
+}
+
+// ---- the lines of standard input
+
+// A line so far: behind `=` a packet in hexadecimal.
+struct Line {
+    packet: [u8; 128],
+    digits: usize,
+    in_packet: bool,
+}
+
+// 16 of what is no digit.
+fn value(digit: u8) -> u8
+    ensures { λ r. ⌜ r ≤ 16 ⌝ }
+{
+    match digit {
+        b'0'..=b'9' => digit - b'0',
+        b'A'..=b'F' => digit - b'A' + 10,
+        _ => 16,
+    }
+}
+
+impl Line {
+    fn new(in_packet: bool) -> Line {
+        Line {
+            packet: [0; 128],
+            digits: 0,
+            in_packet,
+        }
+    }
+
+    fn with_digit(self, digit: u8) -> Line {
+        let mut line = self;
+        let v = value(digit);
+        let i = line.digits / 2;
+        if v < 16 {
+            if i < 128 {
+                line.packet[i] = 16 * (line.packet[i] % 16) + v;
+                line.digits += 1;
+            }
+        }
+        line
+    }
+
+    fn read(self) {
+        let place = Block {
+            start: 0,
+            len: self.digits / 2,
+        };
+        if self.in_packet {
+            read(place.bytes(&self.packet));
+        }
+    }
+
+    fn take(self, c: u8) -> Line {
+        text(&[c]);
+        match c {
+            b'\n' => {
+                self.read();
+                Line::new(false)
+            }
+            b'=' => Line::new(true),
+            _ => self.with_digit(c),
+        }
+    }
+}
+
+// Each line as it stands, and what its packet gives.
+fn read_edges(s: &[u8]) {
+    let mut line = Line::new(false);
+    let mut i = 0;
+    while i < s.len() {
+        line = line.take(s[i]);
+        i += 1;
+    }
+}
+
+// ---- what is written
+
+fn show_written(number: u8, size: usize) {
+    if number == 0 {
+        show(WRITTEN, size as u64);
+    } else {
+        show(REFUSED, number as u64);
+    }
+}
+
+// Room for the largest packet here.
+fn buffer() -> [u8; 131096]
+    ensures { λ r. ⌜ 131096 ≡ length r ⌝ }
+{
+    [0; 131096]
+}
+
+fn identifier_edge(data_size: usize) {
+    let data = io::large_buffer();
+    let place = Block {
+        start: 0,
+        len: data_size,
     };
-    let identifiers = fixture.identifiers;
-    identifiers.next(body)
+    let mut out = buffer();
+    show(IDENTIFIER_DATA, data_size as u64);
+    let put = Identifier::write_to_bytes(
+        &mut out,
+        0,
+        IdentifierType::RDMManufacturerId,
+        place.bytes(&data),
+    );
+    show_written(put.number, put.at);
 }
 
-fn read_identifier(s: &[u8]) -> Outcome {
-    let Step::Packet(p, _) = Cursor::new().step(s) else {
-        return read(s);
-    };
-    let IdentifiersNext::Item(x, _) = first_identifier(p, s) else {
-        return read(s);
-    };
-    let data_size = x.data_size();
-    if data_size == 0 {
-        let identifier_type = x.identifier_type;
-        return gives(Word::NoData, identifier_type.code() as u64);
+// The first so many units; all where there are fewer.
+fn first(units: &[u16], count: usize) -> &[u16] {
+    if count < units.len() {
+        return &units[0..count];
     }
-    gives(Word::Data, data_size as u64)
+    units
 }
 
-// Reads a fixture list of one fixture with one identifier, which starts at the packet's byte 41; the packet ends where message_size says.
-fn identifier(identifier_type: u8, data_size: u8, message_size: u8) -> Outcome {
-    let mut s =
-        *b"CITP\x01\0\0\0\0\0\0\0\x01\0\0\0CAEX\x01\x02\x02\0\0\x01\0\x09\0\0\0\0\0\0\0\0\0\x01\0\0\x01\0\0\0\0\0\0\0\0\0\0\0\0\0\0\0\0\0\0\0\0\0\0\0\0\0\0\0\0\0\0\0\0\0\0\0\0\0\0\0\0";
-    s[8] = message_size;
-    s[41] = identifier_type;
-    s[42] = data_size;
-    read_identifier(&s)
-}
-
-// Scope, 'Edges': Identifier 06 00 00: 10; 05 00 00: no data.
-fn identifier_edges(t: Tally) -> Tally {
-    let got = identifier(6, 0, 80);
-    let t = t.edge(b"Identifier 06 00 00", Word::Refused, 10, got);
-    let got = identifier(255, 0, 80);
-    let t = t.edge(b"Identifier FF 00 00", Word::Refused, 10, got);
-    let got = identifier(5, 0, 80);
-    let t = t.edge(b"Identifier 05 00 00", Word::NoData, 5, got);
-    let got = identifier(5, 1, 81);
-    t.edge(b"Identifier 05 01 00 00", Word::Data, 1, got)
-}
-
-// 'Where a call stops': a type byte is tested as soon as it is read.
-fn identifier_end_edges(t: Tally) -> Tally {
-    let got = identifier(6, 0, 42);
-    let t = t.edge(b"Identifier 06, body ends", Word::Refused, 10, got);
-    let got = identifier(5, 0, 42);
-    let t = t.edge(b"Identifier 05, body ends", Word::Refused, 7, got);
-    let got = identifier(5, 1, 44);
-    t.edge(b"Identifier 05 01 00, body ends", Word::Refused, 7, got)
-}
-
-// ---- a packet written
-
-fn close(out: &mut [u8], given: Written) -> Outcome {
-    if given.number != 0 {
-        return gives(Word::Refused, given.number as u64);
-    }
-    let w = given.writer;
-    let closed = w.close(out);
-    if closed.number != 0 {
-        return gives(Word::Refused, closed.number as u64);
-    }
-    let end = closed.writer;
-    gives(Word::Written, end.at as u64)
-}
-
-fn write_identifier(out: &mut [u8], data: &[u8]) -> Outcome {
-    let put = Identifier::write_to_bytes(out, 0, IdentifierType::RDMManufacturerId, data);
-    if put.number != 0 {
-        return gives(Word::Refused, put.number as u64);
-    }
-    gives(Word::Written, put.at as u64)
-}
-
-// Scope, 'Edges': Identifier 05 00 00: no data. 'Where a call stops': 12 where a block is too long for its count field.
-fn data_edges(t: Tally) -> Tally {
-    let mut out = [0u8; 65539];
-    let got = write_identifier(&mut out, &[]);
-    let t = t.edge(b"identifier of no data", Word::Written, 3, got);
-    let got = write_identifier(&mut out, &[1u8; 65536]);
-    let t = t.edge(b"identifier of 65536 bytes", Word::Refused, 12, got);
-    let got = write_identifier(&mut out, &[1u8; 65535]);
-    t.edge(b"identifier of 65535 bytes", Word::Written, 65538, got)
-}
-
-fn write_capa(out: &mut [u8], capabilities: &[u16]) -> Outcome {
-    let w = Writer::new().open(out, Kind::Capa, 0, 0).writer;
-    let given = w.capa(out, capabilities);
-    close(out, given)
-}
-
-// Scope, 'Edges': 65,535 capabilities are written, 65,536 are 12. A packet of the first has 24 + 2 + 131,070 bytes.
-fn capa_edges(t: Tally) -> Tally {
-    let mut out = [0u8; 131096];
-    let got = write_capa(&mut out, &[1u16; 65536]);
-    let t = t.edge(b"65536 capabilities", Word::Refused, 12, got);
-    let got = write_capa(&mut out, &[1u16; 65535]);
-    let t = t.edge(b"65535 capabilities", Word::Written, 131096, got);
-    t.edge(b"65535 capabilities read", Word::Message, 0, read(&out))
-}
-
-// 'Where a call stops': 13 where the output is shorter than the place after the call, and 12 before 13.
-fn room_edges(t: Tally) -> Tally {
-    let mut out = [0u8; 131095];
-    let got = write_capa(&mut out, &[1u16; 65535]);
-    let t = t.edge(b"65535 capabilities, a byte short", Word::Refused, 13, got);
-    let got = write_capa(&mut out, &[1u16; 65536]);
-    t.edge(b"65536 capabilities, no room", Word::Refused, 12, got)
-}
-
-// As many names of one unit.
+// As many names of one unit, up to the first refusal.
 fn give_names(out: &mut [u8], head: Written, count: usize) -> Written {
     let mut given = head;
     let mut i = 0;
     while i < count {
+        if given.number != 0 {
+            return given;
+        }
         let w = given.writer;
         given = w.feed_name(out, &[65]);
         i += 1;
@@ -334,41 +248,71 @@ fn give_names(out: &mut [u8], head: Written, count: usize) -> Written {
     given
 }
 
-fn write_feeds(out: &mut [u8], count: usize) -> Outcome {
-    let w = Writer::new().open(out, Kind::LaserFeedList, 0, 0).writer;
-    let head = w.laser_feed_list_head(out, 1, count);
-    if head.number != 0 {
-        return gives(Word::Refused, head.number as u64);
+fn give(out: &mut [u8], w: Writer, kind: Kind, count: usize) -> Written {
+    match kind {
+        Kind::Capa => w.capa(out, first(&[1; 65536], count)),
+        Kind::ChLs => {
+            let full = ChannelLevel {
+                universe_index: 0,
+                channel: 511,
+                channel_level: 255,
+            };
+            w.chls_first(out, [full; 16], count)
+        }
+        Kind::LaserFeedList => {
+            let head = w.laser_feed_list_head(out, 1, count);
+            give_names(out, head, count)
+        }
+        _ => w.laser_feed_frame_head(out, 1, 0, 5, count),
     }
-    let given = give_names(out, head, count);
-    close(out, given)
 }
 
-// Scope, 'Edges': 256 laser feed names are 12. A packet of 255 names has 24 + 5 + 255 * 4 bytes.
-fn feed_edges(t: Tally) -> Tally {
-    let mut out = [0u8; 1049];
-    let got = write_feeds(&mut out, 256);
-    let t = t.edge(b"256 laser feed names", Word::Refused, 12, got);
-    let got = write_feeds(&mut out, 255);
-    let t = t.edge(b"255 laser feed names", Word::Written, 1049, got);
-    t.edge(
-        b"255 laser feed names read",
-        Word::UnknownKind,
-        1049,
-        read(&out),
-    )
+// What the last call gives; where it is taken, the packet closed and read.
+fn write(out: &mut [u8], kind: Kind, count: usize) {
+    let w = Writer::new().open(out, kind, 0, 0).writer;
+    let given = give(out, w, kind, count);
+    let w = given.writer;
+    show_written(given.number, w.at);
+    if given.number == 0 {
+        w.close(out);
+        read(out);
+    }
+}
+
+fn packet_edge(items: Label, kind: Kind, count: usize, room: usize)
+    requires { ⌜ room ≤ 131096 ⌝ }
+{
+    let mut out = buffer();
+    show(items, count as u64);
+    show(ROOM, room as u64);
+    write(&mut out[0..room], kind, count);
+}
+
+fn write_edges() {
+    // Scope, 'Edges': an identifier 05 00 00 has no data. 'Where a call stops': 12 where a block is too long for its count field.
+    identifier_edge(0);
+    identifier_edge(65535);
+    identifier_edge(65536);
+    // 'Edges': 65,535 capabilities are written, 65,536 are 12. A packet of the first has 24 + 2 + 131,070 bytes.
+    packet_edge(CAPABILITIES, Kind::Capa, 65535, 131096);
+    packet_edge(CAPABILITIES, Kind::Capa, 65536, 131096);
+    // 'Where a call stops': 13 where the output is shorter than the place after the call, and 12 before 13.
+    packet_edge(CAPABILITIES, Kind::Capa, 65535, 131095);
+    packet_edge(CAPABILITIES, Kind::Capa, 65536, 131095);
+    // A packet of 16 has 24 + 2 + 16 * 4 bytes.
+    packet_edge(CHANNEL_LEVELS, Kind::ChLs, 16, 90);
+    packet_edge(CHANNEL_LEVELS, Kind::ChLs, 16, 89);
+    // 'Edges': 256 laser feed names are 12. A packet of 255 has 24 + 5 + 255 * 4 bytes.
+    packet_edge(FEED_NAMES, Kind::LaserFeedList, 255, 1049);
+    packet_edge(FEED_NAMES, Kind::LaserFeedList, 256, 1049);
+    // The count of points is a u16. They are not given, so the close is refused, and the size field that is read is 0.
+    packet_edge(POINTS, Kind::LaserFeedFrame, 65535, 35);
+    packet_edge(POINTS, Kind::LaserFeedFrame, 65536, 35);
 }
 
 fn main() {
-    let t = Tally { ok: 0, wrong: 0 };
-    let t = size_edges(t);
-    let t = header_edges(t);
-    let t = fptc_header_edges(t);
-    let t = identifier_edges(t);
-    let t = identifier_end_edges(t);
-    let t = data_edges(t);
-    let t = capa_edges(t);
-    let t = room_edges(t);
-    let t = feed_edges(t);
-    t.show();
+    let mut input = io::large_buffer();
+    let n = io::read_full(STDIN_FILENO, &mut input);
+    read_edges(&input[..n]);
+    write_edges();
 }

@@ -89,11 +89,7 @@ impl Compared {
     }
 
     pub(crate) fn cstring(self, due: &[u8], body: &[u8], string: CString) -> Compared {
-        let block = Block {
-            start: string.start,
-            len: string.len,
-        };
-        self.block(due, body, block)
+        self.bytes(due, string.bytes(body))
     }
 
     pub(crate) fn ucs2(self, due: &[u8], body: &[u8], string: Ucs2) -> Compared {

@@ -9,15 +9,11 @@ use libc::STDIN_FILENO;
 use libc::STDOUT_FILENO;
 use wire::Block;
 
-// The eighteen kinds that are read, and the base header.
-const KINDS: usize = 19;
-
-// For each kind the bodies that were read, that were refused, and whose answer is not the one that is due; all bodies by our number, 0 where read.
+// The bodies that were read, that were refused, and whose answer is not the one that is due.
 struct Tally {
-    read: [u64; 19],
-    refused: [u64; 19],
-    differ: [u64; 19],
-    numbers: [u64; 16],
+    read: u64,
+    refused: u64,
+    differ: u64,
 }
 
 // ---- a record: kind, length of the body, body, number due (7: 7 or 8), and where it is 0 the canonical bytes
@@ -74,48 +70,25 @@ fn agrees(answer: Answer, number: u8, due: &[u8]) -> bool {
 // ---- counts
 
 fn one_more(n: u64) -> u64 {
-    if n < 1000000 { n + 1 } else { n }
+    std::num::wrapping_add_u64(n, 1)
 }
 
 impl Tally {
-    fn new() -> Tally {
-        Tally {
-            read: [0; 19],
-            refused: [0; 19],
-            differ: [0; 19],
-            numbers: [0; 16],
-        }
-    }
-
-    fn count(self, kind: u8, number: u8, agree: bool) -> Tally {
-        let k = kind as usize;
+    fn count(self, number: u8, agree: bool) -> Tally {
         let mut t = self;
-        if KINDS <= k {
-            return t;
-        }
         if !agree {
-            t.differ[k] = one_more(t.differ[k]);
+            t.differ = one_more(t.differ);
         } else if number == 0 {
-            t.read[k] = one_more(t.read[k]);
+            t.read = one_more(t.read);
         } else {
-            t.refused[k] = one_more(t.refused[k]);
-        }
-        t
-    }
-
-    fn count_number(self, number: u8) -> Tally {
-        let n = number as usize;
-        let mut t = self;
-        if n < 16 {
-            t.numbers[n] = one_more(t.numbers[n]);
+            t.refused = one_more(t.refused);
         }
         t
     }
 
     fn compare(self, kind: u8, body: &[u8], number: u8, due: &[u8]) -> Tally {
         let answer = answer(kind, body, due);
-        let t = self.count_number(answer.number);
-        t.count(kind, answer.number, agrees(answer, number, due))
+        self.count(answer.number, agrees(answer, number, due))
     }
 }
 
@@ -138,75 +111,16 @@ fn replay(tally: Tally, record: &[u8]) -> Tally {
 
 // ---- text
 
-fn text(s: &[u8]) {
-    io::write_all(STDOUT_FILENO, s);
-}
-
 fn decimal(key: &[u8], n: u64) {
-    text(key);
+    io::write_all(STDOUT_FILENO, key);
     io::print_decimal(STDOUT_FILENO, n);
 }
 
-// The kinds' names, 16 bytes each.
-fn name(kind: usize) {
-    let place = Block {
-        start: 16 * (kind % KINDS),
-        len: 16,
-    };
-    text(place.bytes(
-        b"EnterShow       FixtureList     FixtureRemove   LaserFeedControlCapa            UNam            ChBk            ChLs            Sxus            Ptch            UPtc            SPtc            Sele            DeSe            SFra            Fram            PNam            PLoc            Header          ",
-    ));
-}
-
-fn line(read: u64, refused: u64, differ: u64) {
-    decimal(b" read=", read);
-    decimal(b" refused=", refused);
-    decimal(b" differ=", differ);
-    text(b"\n");
-}
-
-// The sum of a count over all kinds.
-fn total(counts: [u64; 19]) -> u64 {
-    let mut sum: u64 = 0;
-    let mut kind = 0;
-    while kind < KINDS {
-        sum = std::num::wrapping_add_u64(sum, counts[kind]);
-        kind += 1;
-    }
-    sum
-}
-
-fn show_kinds(tally: Tally) {
-    let mut kind = 0;
-    while kind < KINDS {
-        name(kind);
-        line(tally.read[kind], tally.refused[kind], tally.differ[kind]);
-        kind += 1;
-    }
-}
-
-fn show_numbers(seven: u64, eight: u64, nine: u64, ten: u64) {
-    decimal(b"refused with 7: ", seven);
-    decimal(b", 8: ", eight);
-    decimal(b", 9: ", nine);
-    decimal(b", 10: ", ten);
-}
-
-fn show_totals(agree: u64, differ: u64) {
-    decimal(b"\n", agree);
-    decimal(b" agree, ", differ);
-    text(b" differ\n");
-}
-
 fn show(tally: Tally) {
-    show_kinds(tally);
-    let n = tally.numbers;
-    show_numbers(n[7], n[8], n[9], n[10]);
-    let read = tally.read;
-    let refused = tally.refused;
-    let differ = tally.differ;
-    let agree = std::num::wrapping_add_u64(total(read), total(refused));
-    show_totals(agree, total(differ));
+    decimal(b"read=", tally.read);
+    decimal(b" refused=", tally.refused);
+    decimal(b" differ=", tally.differ);
+    io::write_all(STDOUT_FILENO, b"\n");
 }
 
 // ---- the sample
@@ -249,7 +163,11 @@ fn replay_next(tally: Tally) -> Replayed {
 }
 
 fn main() {
-    let mut tally = Tally::new();
+    let mut tally = Tally {
+        read: 0,
+        refused: 0,
+        differ: 0,
+    };
     let mut records: u64 = 0;
     while records < 65536 {
         let next = replay_next(tally);

@@ -1,6 +1,4 @@
 // Writes the stream of a small rig through the packet writer to standard output: 36 lamps on two trusses and the floor, in two universes.
-ghost use Prim.Native.Nat.{_≤_};
-ghost use lib.ListN.{length};
 use caex::FixtureListMessageType;
 use fixture::FixtureData;
 use fixture::FloatBits;
@@ -8,168 +6,191 @@ use fixture::IdentifierType;
 use libc::STDOUT_FILENO;
 use turns::Kind;
 use writer::Writer;
+use writer::Written;
 
 const LAMPS: u16 = 36;
 
-const ETC: [u8; 3] = *b"ETC";
+// ---- the lamps, in four rows
 
-const MARTIN: [u8; 6] = *b"Martin";
+// For each row make, name, mode and place, 20 characters each.
+const NAMES: [u8; 320] = *b"\
+    ETC                 Source Four 26deg   Dimmer              front truss         \
+    Martin              MAC Aura            Standard            back truss          \
+    Robe                Robin Pointe        Mode 1              back truss          \
+    Robe                Robin LEDBeam 150   Mode 1              floor               ";
 
-const ROBE: [u8; 4] = *b"Robe";
+const MAKE: usize = 0;
 
-const SOURCE_FOUR: [u8; 17] = *b"Source Four 26deg";
+const NAME: usize = 1;
 
-const MAC_AURA: [u8; 8] = *b"MAC Aura";
+const MODE: usize = 2;
 
-const POINTE: [u8; 12] = *b"Robin Pointe";
+const PLACE: usize = 3;
 
-const LED_BEAM: [u8; 17] = *b"Robin LEDBeam 150";
-
-// The last byte of an instance is the lamp's number.
-const INSTANCE: [u8; 16] = *b"\x6e\x1d\x52\x0b\x8c\x47\x4f\x21\x9a\x35\x0d\xe2\x71\xb8\x44\0";
-
-// ---- the lamps
-
-enum Model {
-    SourceFour,
-    MacAura,
-    Pointe,
-    LedBeam,
-}
-
-impl Model {
-    fn channel_count(self) -> u16 {
-        match self {
-            Model::SourceFour => 1,
-            Model::MacAura => 14,
-            Model::Pointe => 24,
-            Model::LedBeam => 22,
-        }
-    }
-
-    fn is_dimmer(self) -> u8 {
-        match self {
-            Model::SourceFour => 1,
-            Model::MacAura | Model::Pointe | Model::LedBeam => 0,
-        }
-    }
-}
-
-// In metres: x across the stage, y up, z upstage. The tilt is in degrees.
+// A lamp, and the steps to the next of its row. In metres: x across the stage, y up, z upstage. The tilt is in degrees.
 struct Lamp {
-    model: Model,
+    row: usize,
+    // the maker's ESTA number, low byte first
+    manufacturer_id: [u8; 2],
+    channel_count: u16,
+    is_dimmer: u8,
     // from 1; also its channel on the desk and its circuit
     number: u16,
     // its place on its truss, from 1
     unit: u16,
+    unit_step: u16,
     universe: u8,
     channel: u16,
     x: f32,
+    x_step: f32,
     y: f32,
     z: f32,
     tilt: f32,
 }
 
-fn spaced(i: u16, spacing: f32, first: f32) -> f32 {
-    std::num::nearest_u32_to_f32(i as u32) * spacing + first
-}
+// Lamps 1 to 12.
+const SOURCE_FOUR: Lamp = Lamp {
+    row: 0,
+    manufacturer_id: [0x74, 0x65],
+    channel_count: 1,
+    is_dimmer: 1,
+    number: 1,
+    unit: 1,
+    unit_step: 1,
+    universe: 0,
+    channel: 0,
+    x: -5.5,
+    x_step: 1.0,
+    y: 6.5,
+    z: -3.0,
+    tilt: 45.0,
+};
 
-// Lamps 1 to 12, on the front truss.
-fn source_four(n: u16) -> Lamp {
-    let i = n % 12;
-    Lamp {
-        model: Model::SourceFour,
-        number: 1 + i,
-        unit: 1 + i,
-        universe: 0,
-        channel: i,
-        x: spaced(i, 1.0, -5.5),
-        y: 6.5,
-        z: -3.0,
-        tilt: 45.0,
-    }
-}
+// Lamps 13 to 20.
+const MAC_AURA: Lamp = Lamp {
+    row: 1,
+    manufacturer_id: [0x50, 0x4D],
+    channel_count: 14,
+    is_dimmer: 0,
+    number: 13,
+    unit: 1,
+    unit_step: 2,
+    universe: 0,
+    channel: 20,
+    x: -5.625,
+    x_step: 1.5,
+    y: 7.0,
+    z: 4.0,
+    tilt: 0.0,
+};
 
-// Lamps 13 to 20, on the back truss.
-fn mac_aura(n: u16) -> Lamp {
-    let i = n % 8;
-    Lamp {
-        model: Model::MacAura,
-        number: 13 + i,
-        unit: 1 + 2 * i,
-        universe: 0,
-        channel: 20 + 14 * i,
-        x: spaced(i, 1.5, -5.625),
-        y: 7.0,
-        z: 4.0,
-        tilt: 0.0,
-    }
-}
+// Lamps 21 to 28, between those of row 1.
+const POINTE: Lamp = Lamp {
+    row: 2,
+    manufacturer_id: [0x53, 0x52],
+    channel_count: 24,
+    is_dimmer: 0,
+    number: 21,
+    unit: 2,
+    unit_step: 2,
+    universe: 1,
+    channel: 0,
+    x: -4.875,
+    x_step: 1.5,
+    y: 7.0,
+    z: 4.0,
+    tilt: 0.0,
+};
 
-// Lamps 21 to 28, on the back truss between the others.
-fn pointe(n: u16) -> Lamp {
-    let i = n % 8;
-    Lamp {
-        model: Model::Pointe,
-        number: 21 + i,
-        unit: 2 + 2 * i,
-        universe: 1,
-        channel: 24 * i,
-        x: spaced(i, 1.5, -4.875),
-        y: 7.0,
-        z: 4.0,
-        tilt: 0.0,
-    }
-}
+// Lamps 29 to 36, upright.
+const LED_BEAM: Lamp = Lamp {
+    row: 3,
+    manufacturer_id: [0x53, 0x52],
+    channel_count: 22,
+    is_dimmer: 0,
+    number: 29,
+    unit: 1,
+    unit_step: 1,
+    universe: 1,
+    channel: 200,
+    x: -4.375,
+    x_step: 1.25,
+    y: 0.25,
+    z: 3.5,
+    tilt: 180.0,
+};
 
-// Lamps 29 to 36, upright on the floor.
-fn led_beam(n: u16) -> Lamp {
-    let i = n % 8;
-    Lamp {
-        model: Model::LedBeam,
-        number: 29 + i,
-        unit: 1 + i,
-        universe: 1,
-        channel: 200 + 22 * i,
-        x: spaced(i, 1.25, -4.375),
-        y: 0.25,
-        z: 3.5,
-        tilt: 180.0,
+impl Lamp {
+    // The lamp so many further along its row.
+    fn after(mut self, n: u16) -> Lamp {
+        for _ in 0..n {
+            self.number = std::num::wrapping_add_u16(self.number, 1);
+            self.unit = std::num::wrapping_add_u16(self.unit, self.unit_step);
+            self.channel = std::num::wrapping_add_u16(self.channel, self.channel_count);
+            self.x = self.x + self.x_step;
+        }
+        self
     }
 }
 
 fn lamp_at(n: u16) -> Lamp {
     if n < 12 {
-        return source_four(n);
+        return SOURCE_FOUR.after(n);
     }
     if n < 20 {
-        return mac_aura(n - 12);
+        return MAC_AURA.after(n - 12);
     }
     if n < 28 {
-        return pointe(n - 20);
+        return POINTE.after(n - 20);
     }
-    led_beam(n - 28)
+    LED_BEAM.after(n - 28)
 }
 
 // ---- text
+
+struct Text {
+    bytes: [u8; 20],
+    units: [u16; 20],
+    // without the spaces behind it
+    len: usize,
+}
 
 fn wide(byte: u8) -> u16 {
     byte as u16
 }
 
-// ASCII text as units, as far as there is room; the count of them.
-fn widen(text: &[u8], units: &mut [u16]) -> usize
-    ensures { λ r. ⌜ r ≤ length (now (units .exit)) ⌝ }
-{
-    let mut i = 0;
-    while i < text.len() {
-        if units.len() <= i {
-            return i;
+fn name_of(row: usize, column: usize) -> Text {
+    let names = NAMES;
+    let start = 80 * (row % 4) + 20 * (column % 4);
+    let mut text = Text {
+        bytes: [0; 20],
+        units: [0; 20],
+        len: 0,
+    };
+    for i in 0..20 {
+        let c = names[start + i];
+        text.bytes[i] = c;
+        text.units[i] = wide(c);
+        if c != b' ' {
+            text.len = i + 1;
         }
-        units[i] = wide(text[i]);
-        i += 1;
     }
-    i
+    text
+}
+
+// The first so many units; all where there are fewer.
+fn first(units: &[u16], count: usize) -> &[u16] {
+    if count < units.len() {
+        return &units[0..count];
+    }
+    units
+}
+
+fn start(bytes: &[u8], count: usize) -> &[u8] {
+    if count < bytes.len() {
+        return &bytes[0..count];
+    }
+    bytes
 }
 
 // Two decimal digits.
@@ -179,15 +200,14 @@ fn digits(n: u16) -> [u16; 2] {
 
 // ---- packets
 
-fn opened(out: &mut [u8], kind: Kind) -> Writer {
-    Writer::new().open(out, kind, 0, 0).writer
+fn opened(out: &mut [u8], kind: Kind, content_hint: u32) -> Writer {
+    Writer::new().open(out, kind, 0, content_hint).writer
 }
 
 // Closes the packet and writes it out; a refused call leaves it unfinished, and nothing is written.
-fn send(out: &mut [u8], w: Writer) {
-    let closed = w.close(out);
-    let end = closed.writer;
-    let at = end.at;
+fn send(out: &mut [u8], given: Written) {
+    let closed = given.writer.close(out);
+    let at = closed.writer.at;
     if closed.number == 0 {
         if at <= out.len() {
             io::write_all(STDOUT_FILENO, &out[0..at]);
@@ -196,77 +216,46 @@ fn send(out: &mut [u8], w: Writer) {
 }
 
 fn send_pnam(out: &mut [u8]) {
-    let w = opened(out, Kind::PNam);
-    let w = w.pnam(out, b"Small rig desk").writer;
-    send(out, w);
+    let given = opened(out, Kind::PNam, 0).pnam(out, b"Small rig desk");
+    send(out, given);
 }
 
 fn send_enter_show(out: &mut [u8]) {
-    let mut name = [0u16; 32];
-    let n = widen(b"Small rig", &mut name);
-    let w = opened(out, Kind::EnterShow);
-    let w = w.enter_show(out, &name[0..n]).writer;
-    send(out, w);
+    // Small rig
+    let given = opened(out, Kind::EnterShow, 0).enter_show(
+        out,
+        &[83, 109, 97, 108, 108, 32, 114, 105, 103],
+    );
+    send(out, given);
 }
 
 fn send_unam(out: &mut [u8], universe_index: u8, universe_name: &[u8]) {
-    let w = opened(out, Kind::UNam);
-    let w = w.unam(out, universe_index, universe_name).writer;
-    send(out, w);
+    let given = opened(out, Kind::UNam, 0).unam(out, universe_index, universe_name);
+    send(out, given);
 }
 
 fn send_sele(out: &mut [u8]) {
-    let w = opened(out, Kind::Sele);
-    let w = w.sele(out, 1, 0, &[1, 2, 3, 4, 5, 6, 7, 8, 9, 10, 11, 12])
-        .writer;
-    send(out, w);
+    let given = opened(out, Kind::Sele, 0).sele(
+        out,
+        1,
+        0,
+        &[1, 2, 3, 4, 5, 6, 7, 8, 9, 10, 11, 12],
+    );
+    send(out, given);
 }
 
 fn send_chbk(out: &mut [u8], universe_index: u8, first_channel: u16, levels: &[u8]) {
-    let w = opened(out, Kind::ChBk);
-    let w = w.chbk(out, 0, universe_index, first_channel, levels).writer;
-    send(out, w);
+    let given = opened(out, Kind::ChBk, 0).chbk(out, 0, universe_index, first_channel, levels);
+    send(out, given);
 }
 
 // ---- the fixture list
 
-fn write_head(
-    out: &mut [u8],
-    w: Writer,
-    lamp: Lamp,
-    make: &[u8],
-    name: &[u8],
-    mode: &[u8],
-) -> Writer {
-    let model = lamp.model;
-    let mut make_units = [0u16; 32];
-    let m = widen(make, &mut make_units);
-    let mut name_units = [0u16; 32];
-    let n = widen(name, &mut name_units);
-    let mut mode_units = [0u16; 32];
-    let k = widen(mode, &mut mode_units);
-    w.fixture_head(
-            out,
-            lamp.number as u32,
-            &make_units[0..m],
-            &name_units[0..n],
-            &mode_units[0..k],
-            model.channel_count(),
-            model.is_dimmer(),
-            2,
-        )
-        .writer
-}
-
-// The maker by its ESTA number, and the lamp in the drawing.
-fn write_identifiers(out: &mut [u8], w: Writer, lamp: Lamp, maker: u16) -> Writer {
-    let maker = [(maker % 256) as u8, (maker / 256 % 256) as u8];
-    let w = w.identifier(out, IdentifierType::RDMManufacturerId, &maker)
-        .writer;
-    let mut instance = INSTANCE;
-    instance[15] = (lamp.number % 256) as u8;
-    w.identifier(out, IdentifierType::CaptureInstanceId, &instance)
-        .writer
+// The lamp in the drawing.
+fn instance(lamp: Lamp) -> [u8; 16] {
+    let mut id = *b"\x6e\x1d\x52\x0b\x8c\x47\x4f\x21\x9a\x35\x0d\xe2\x71\xb8\x44\0";
+    id[15] = (lamp.number % 256) as u8;
+    id
 }
 
 // The floats have no NaN, so their bits beside them do not count.
@@ -293,69 +282,81 @@ fn data(lamp: Lamp) -> FixtureData {
     }
 }
 
-fn write_data(out: &mut [u8], w: Writer, lamp: Lamp, place: &[u8]) -> Writer {
-    let mut note = [0u16; 32];
-    let n = widen(place, &mut note);
-    let unit = digits(lamp.unit);
-    let circuit = digits(lamp.number);
-    w.fixture_data(out, data(lamp), &unit, &circuit, &note[0..n])
+fn write_identifiers(out: &mut [u8], w: Writer, lamp: Lamp) -> Written {
+    let maker = w.identifier(
+        out,
+        IdentifierType::RDMManufacturerId,
+        &lamp.manufacturer_id,
+    );
+    maker
         .writer
+        .identifier(out, IdentifierType::CaptureInstanceId, &instance(lamp))
 }
 
-fn write_source_four(out: &mut [u8], w: Writer, lamp: Lamp) -> Writer {
-    let w = write_head(out, w, lamp, &ETC, &SOURCE_FOUR, b"Dimmer");
-    let w = write_identifiers(out, w, lamp, 0x6574);
-    write_data(out, w, lamp, b"front truss")
+fn write_fixture(
+    out: &mut [u8],
+    w: Writer,
+    lamp: Lamp,
+    make: &[u16],
+    name: &[u16],
+    mode: &[u16],
+    place: &[u16],
+) -> Written {
+    let head = w.fixture_head(
+        out,
+        lamp.number as u32,
+        make,
+        name,
+        mode,
+        lamp.channel_count,
+        lamp.is_dimmer,
+        2,
+    );
+    let identifiers = write_identifiers(out, head.writer, lamp);
+    identifiers.writer.fixture_data(
+        out,
+        data(lamp),
+        &digits(lamp.unit),
+        &digits(lamp.number),
+        place,
+    )
 }
 
-fn write_mac_aura(out: &mut [u8], w: Writer, lamp: Lamp) -> Writer {
-    let w = write_head(out, w, lamp, &MARTIN, &MAC_AURA, b"Standard");
-    let w = write_identifiers(out, w, lamp, 0x4D50);
-    write_data(out, w, lamp, b"back truss")
+fn write_lamp(out: &mut [u8], w: Writer, lamp: Lamp) -> Written {
+    let make = name_of(lamp.row, MAKE);
+    let name = name_of(lamp.row, NAME);
+    let mode = name_of(lamp.row, MODE);
+    let place = name_of(lamp.row, PLACE);
+    write_fixture(
+        out,
+        w,
+        lamp,
+        first(&make.units, make.len),
+        first(&name.units, name.len),
+        first(&mode.units, mode.len),
+        first(&place.units, place.len),
+    )
 }
 
-fn write_pointe(out: &mut [u8], w: Writer, lamp: Lamp) -> Writer {
-    let w = write_head(out, w, lamp, &ROBE, &POINTE, b"Mode 1");
-    let w = write_identifiers(out, w, lamp, 0x5253);
-    write_data(out, w, lamp, b"back truss")
-}
-
-fn write_led_beam(out: &mut [u8], w: Writer, lamp: Lamp) -> Writer {
-    let w = write_head(out, w, lamp, &ROBE, &LED_BEAM, b"Mode 1");
-    let w = write_identifiers(out, w, lamp, 0x5253);
-    write_data(out, w, lamp, b"floor")
-}
-
-fn write_fixture(out: &mut [u8], w: Writer, lamp: Lamp) -> Writer {
-    let model = lamp.model;
-    match model {
-        Model::SourceFour => write_source_four(out, w, lamp),
-        Model::MacAura => write_mac_aura(out, w, lamp),
-        Model::Pointe => write_pointe(out, w, lamp),
-        Model::LedBeam => write_led_beam(out, w, lamp),
-    }
-}
-
-fn write_fixtures(out: &mut [u8], list: Writer) -> Writer {
-    let mut w = list;
+fn write_fixtures(out: &mut [u8], head: Written) -> Written {
+    let mut given = head;
     let mut n: u16 = 0;
     while n < LAMPS {
-        w = write_fixture(out, w, lamp_at(n));
+        given = write_lamp(out, given.writer, lamp_at(n));
         n += 1;
     }
-    w
+    given
 }
 
 fn send_fixture_list(out: &mut [u8]) {
-    let w = opened(out, Kind::FixtureList);
-    let w = w.fixture_list_head(
-            out,
-            FixtureListMessageType::ExistingPatchList,
-            LAMPS as usize,
-        )
-        .writer;
-    let w = write_fixtures(out, w);
-    send(out, w);
+    let w = opened(out, Kind::FixtureList, 0);
+    let head = w.fixture_list_head(
+        out,
+        FixtureListMessageType::ExistingPatchList,
+        LAMPS as usize,
+    );
+    let given = write_fixtures(out, head);
+    send(out, given);
 }
 
 // ---- the patch
@@ -365,33 +366,20 @@ fn content_hint(lamp: Lamp) -> u32 {
     if lamp.number < LAMPS { 1 } else { 2 }
 }
 
-fn send_names(out: &mut [u8], lamp: Lamp, make: &[u8], name: &[u8]) {
-    let model = lamp.model;
-    let w = Writer::new()
-        .open(out, Kind::Ptch, 0, content_hint(lamp))
-        .writer;
-    let w = w.ptch(
-            out,
-            lamp.number,
-            lamp.universe,
-            0,
-            lamp.channel,
-            model.channel_count(),
-            make,
-            name,
-        )
-        .writer;
-    send(out, w);
-}
-
 fn send_ptch(out: &mut [u8], lamp: Lamp) {
-    let model = lamp.model;
-    match model {
-        Model::SourceFour => send_names(out, lamp, &ETC, &SOURCE_FOUR),
-        Model::MacAura => send_names(out, lamp, &MARTIN, &MAC_AURA),
-        Model::Pointe => send_names(out, lamp, &ROBE, &POINTE),
-        Model::LedBeam => send_names(out, lamp, &ROBE, &LED_BEAM),
-    }
+    let make = name_of(lamp.row, MAKE);
+    let name = name_of(lamp.row, NAME);
+    let given = opened(out, Kind::Ptch, content_hint(lamp)).ptch(
+        out,
+        lamp.number,
+        lamp.universe,
+        0,
+        lamp.channel,
+        lamp.channel_count,
+        start(&make.bytes, make.len),
+        start(&name.bytes, name.len),
+    );
+    send(out, given);
 }
 
 fn send_patch(out: &mut [u8]) {
@@ -402,22 +390,30 @@ fn send_patch(out: &mut [u8]) {
     }
 }
 
-fn main() {
-    let mut out = io::large_buffer();
-    send_pnam(&mut out);
-    send_enter_show(&mut out);
-    send_unam(&mut out, 0, b"Dimmers and wash");
-    send_unam(&mut out, 1, b"Spots and beams");
-    send_fixture_list(&mut out);
-    send_patch(&mut out);
-    send_sele(&mut out);
-    // the front dimmers at 70 %, the first MAC Aura open in amber, the second universe dark
-    send_chbk(&mut out, 0, 0, &[178; 12]);
+fn send_universes(out: &mut [u8]) {
+    send_unam(out, 0, b"Dimmers and wash");
+    send_unam(out, 1, b"Spots and beams");
+}
+
+// The front dimmers at 70 %, the first MAC Aura open in amber, the second universe dark.
+fn send_levels(out: &mut [u8]) {
+    send_chbk(out, 0, 0, &[178; 12]);
     send_chbk(
-        &mut out,
+        out,
         0,
         20,
         &[30, 255, 128, 128, 0, 128, 0, 0, 0, 255, 120, 0, 0, 0],
     );
-    send_chbk(&mut out, 1, 0, &[0; 376]);
+    send_chbk(out, 1, 0, &[0; 376]);
+}
+
+fn main() {
+    let mut out = io::large_buffer();
+    send_pnam(&mut out);
+    send_enter_show(&mut out);
+    send_universes(&mut out);
+    send_fixture_list(&mut out);
+    send_patch(&mut out);
+    send_sele(&mut out);
+    send_levels(&mut out);
 }

@@ -10,4 +10,4 @@ abbrev μ-loop : tie.MeasureT-loop
 μ-loop tally₀ records₀ tally records = 65536 - records
 
 pub main-spec : {M : Type 1} → statement M
-main-spec = tie.close (tie.spec Inv-loop μ-loop (λ c κs. tt) (λ c. search needs) (λ c κs. tt) (λ c. search needs) (λ c. search needs) (λ c. search needs) (λ c κs. tt) (λ c. search needs))
+main-spec = tie.close (tie.spec Inv-loop μ-loop (λ c. search needs) (λ c κs. tt) (λ c. search needs) (λ c. search needs) (λ c. search needs) (λ c κs. tt) (λ c. search needs))

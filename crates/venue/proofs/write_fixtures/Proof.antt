@@ -7,10 +7,10 @@ use Rattle.venue.proofs.write_fixtures.Tie as tie
 
 -- the output keeps its length
 abbrev Inv-loop : tie.InvT-loop
-Inv-loop out₀ w₀ n₀ out w n = length out ≡ length out₀
+Inv-loop out₀ given₀ n₀ out given n = length out ≡ length out₀
 
 abbrev μ-loop : tie.MeasureT-loop
-μ-loop out₀ w₀ n₀ out w n = 36 - n
+μ-loop out₀ given₀ n₀ out given n = 36 - n
 
 pub write-fixtures-spec : {M : Type 1} → statement M
 write-fixtures-spec =
