@@ -339,7 +339,7 @@ citp_copied citp_copy_ucs2(const uint8_t *body, size_t body_len, size_t start, u
 citp_copied citp_u16_list_copy(const uint8_t *body, size_t body_len, size_t at, uint16_t left, uint16_t *out, size_t out_len);
 citp_copied citp_u32_list_copy(const uint8_t *body, size_t body_len, size_t at, uint16_t left, uint32_t *out, size_t out_len);
 
-/* ---- sizes of bodies and of parts; past 16,777,216 bytes 16,777,217 */
+/* ---- sizes of bodies and of parts, at most SIZE_MAX; of a channel list by the count of its records */
 
 size_t citp_enter_show_size(const uint16_t *name, size_t name_len);
 size_t citp_fixture_remove_size(const uint32_t *fixture_identifiers, size_t fixture_identifiers_len);
@@ -347,7 +347,7 @@ size_t citp_laser_feed_control_size(void);
 size_t citp_capa_size(const uint16_t *capabilities, size_t capabilities_len);
 size_t citp_unam_size(const uint8_t *universe_name, size_t universe_name_len);
 size_t citp_chbk_size(const uint8_t *channel_levels, size_t channel_levels_len);
-size_t citp_chls_size(const citp_channel_level *channel_levels, size_t channel_levels_len);
+size_t citp_chls_size(size_t count);
 size_t citp_sxus_size(const uint8_t *connection_string, size_t connection_string_len);
 size_t citp_ptch_size(const uint8_t *fixture_make, size_t fixture_make_len, const uint8_t *fixture_name,
                       size_t fixture_name_len);

@@ -378,7 +378,7 @@ functions! {
     capa_size(capabilities: &[u16]) -> usize;
     unam_size(universe_name: &[u8]) -> usize;
     chbk_size(channel_levels: &[u8]) -> usize;
-    chls_size(channel_levels: &[ChannelLevel]) -> usize;
+    chls_size(count: usize) -> usize;
     sxus_size(connection_string: &[u8]) -> usize;
     ptch_size(fixture_make: &[u8], fixture_name: &[u8]) -> usize;
     uptc_size(fixture_identifiers: &[u16]) -> usize;

@@ -341,12 +341,8 @@ fn sizes() {
     }
 }
 
-fn limits() {
-    entry(26, "Sizes past the largest packet");
-    for n in [16_777_215, 16_777_216, 16_777_217] {
-        show_size(&format!("PNam of {n} bytes"), &pinf::PNam { name: CString::new(vec![0x41; n]).expect("no zero") });
-    }
-    entry(27, "Type codes given by number");
+fn codes() {
+    entry(26, "Type codes given by number");
     show("FixtureList of type 3, no fixtures", "takes an enum", ours_writes(|pen| pen.fixture_list_head(3, 0)));
     show("Identifier of type 6 without data", "takes an enum", ours_writes(|pen| pen.identifier(6, &[])));
 }
@@ -410,5 +406,5 @@ pub fn show_all() {
     outputs_and_turns();
     sizes();
     names_and_floats();
-    limits();
+    codes();
 }

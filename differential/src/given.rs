@@ -223,7 +223,7 @@ kinds! {
         Some(library::chbk_size(&v.channel_levels));
     sdmx::ChLs<'_>, CHLS,
         |v, pen| pen.chls(&levels(&v.channel_levels)),
-        Some(library::chls_size(&levels(&v.channel_levels)));
+        Some(library::chls_size(v.channel_levels.len()));
     sdmx::Sxus, SXUS,
         |v, pen| pen.sxus(v.universe_index, v.connection_string.as_bytes()),
         Some(library::sxus_size(&v.connection_string.as_bytes()));

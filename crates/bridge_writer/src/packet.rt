@@ -5,14 +5,12 @@ ghost use Rattle.format.specs.Passed.{inRange};
 ghost use Rattle.protocol.specs.Kind as kinds;
 ghost use Rattle.writing.specs.Call.{opens, give, closes, body, laserFeedList, feedName, laserFeedFrame, laserPoint, fixtureList, fixture, identifier, fixtureData};
 ghost use Rattle.chls.specs.Levels.{levelValue};
-ghost use Rattle.writer.specs.Says.{chlsPlace, chlsNumber, chlsState};
 ghost use Rattle.bridge_writer.specs.Write.{byCode};
 ghost use Rattle.plain.specs.Numbers.{valueOf};
-ghost use Rattle.plain.specs.State.{kindAt, byKind, stateIs, answerOf, refusedWith, called};
+ghost use Rattle.plain.specs.State.{kindAt, byKind, refusedWith, called};
 use caex::FixtureListMessageType;
 use caex::FixtureListMessageTypeRead;
 use caex::LaserPoint;
-use chls::write_to_bytes;
 use fixture::IdentifierType;
 use fixture::IdentifierTypeRead;
 use plain::numbers::FixtureNumbers;
@@ -21,7 +19,6 @@ use plain::state::KindFound;
 use plain::state::WriterAnswer;
 use plain::state::WriterState;
 use plain::state::kind_of;
-use put::Put;
 use sdmx::ChannelLevel;
 
 // ---- open and close
@@ -144,20 +141,6 @@ pub extern "C" fn citp_writer_chbk(
     w.answer(r)
 }
 
-fn chls_place(w: WriterState) -> usize
-    ensures { λ r. ⌜ r ≡ chlsPlace (stateIs w) ⌝ }
-{
-    w.state().chls_place()
-}
-
-fn after_chls(w: WriterState, put: Put) -> WriterAnswer
-    ensures { λ r. ⌜ r ≡ answerOf w (chlsNumber put (stateIs w)) (chlsState put (stateIs w)) ⌝ }
-{
-    let r = w.state().after_chls(put);
-    w.answer(r)
-}
-
-// The three calls of `writer::Writer::chls`, over plain fields: one proof by hand serves both.
 #[no_mangle]
 pub extern "C" fn citp_writer_chls(
     w: WriterState,
@@ -166,9 +149,9 @@ pub extern "C" fn citp_writer_chls(
 ) -> WriterAnswer
     ensures { λ r. ⌜ (r, now (out .exit)) ≡ called (give (body kinds.ChLs (map levelValue (now («channel_levels» .entry))))) w (now (out .entry)) ⌝ }
 {
-    let at = chls_place(w);
-    let put = write_to_bytes(out, at, channel_levels);
-    after_chls(w, put)
+    let state = w.state();
+    let r = state.chls(out, channel_levels);
+    w.answer(r)
 }
 
 #[no_mangle]

@@ -1,6 +1,6 @@
-// The sizes of bodies and of parts, as bytes; past the largest packet one byte more than that packet.
+// The sizes of bodies and of parts, in bytes, at most usize::MAX.
 ghost use mathlib.Core.Path.{_≡_};
-ghost use mathlib.Core.List.{map};
+ghost use lib.ListN.{replicate};
 ghost use Rattle.format.specs.Format.{size};
 ghost use Rattle.protocol.specs.Kind.{identifierFormat, fixtureDataFormat, laserPointFormat};
 ghost use Rattle.put.specs.Put.{capped};
@@ -9,7 +9,6 @@ ghost use Rattle.finf.specs.Says.{sfra, fram};
 ghost use Rattle.fsel.specs.Says.{sele, dese};
 ghost use Rattle.fptc.specs.Says.{ptch, uptc, sptc};
 ghost use Rattle.sdmx.specs.Says.{capa, unam, chbk, chls, sxus};
-ghost use Rattle.chls.specs.Levels.{levelValue};
 ghost use Rattle.caex.specs.Says.{enterShow, fixtureRemove, laserFeedControl};
 use caex::EnterShow;
 use caex::FixtureRemove;
@@ -28,7 +27,6 @@ use pinf::PLoc;
 use pinf::PNam;
 use sdmx::Capa;
 use sdmx::ChBk;
-use sdmx::ChannelLevel;
 use sdmx::Sxus;
 use sdmx::UNam;
 
@@ -76,10 +74,10 @@ pub extern "C" fn citp_chbk_size(channel_levels: &[u8]) -> usize
 
 // A function over a slice of structs is proved by hand: it only makes a call.
 #[no_mangle]
-pub extern "C" fn citp_chls_size(channel_levels: &[ChannelLevel]) -> usize
-    ensures { λ r. ⌜ r ≡ capped (size chls (map levelValue (now («channel_levels» .entry)))) ⌝ }
+pub extern "C" fn citp_chls_size(count: usize) -> usize
+    ensures { λ r. ⌜ r ≡ capped (size chls (replicate count (0, (0, 0)))) ⌝ }
 {
-    chls::size_bytes(channel_levels)
+    chls::size_bytes(count)
 }
 
 #[no_mangle]

@@ -1,5 +1,5 @@
 // The CAEX layer: shows, fixture lists and laser feeds.
-// A size past the largest packet is given as one byte more than that packet; a size's contract has 0 for each number, whose width is fixed.
+// A size is at most usize::MAX; its contract has 0 for each number, whose width is fixed.
 // A list is written as its head with the count of its items, then item by item; a count is given wider than its field.
 ghost use mathlib.Core.Path.{_≡_};
 ghost use Rattle.format.specs.Format.{number, ucs2, list, size, _&_};

@@ -6,13 +6,12 @@ use mathlib.Core.List.{List, [], _∷_, _++_, map, append-assoc, append-nil}
 use native.Mathlib.Nat.{add-zero, not-suc-le-zero, le-of-suc-le-suc, le-of-lt}
 use native.Mathlib.Numerals.{add-one}
 use native.Mathlib.Omega.{arith}
-use lib.ListN.{length, take, getD, set, length-append, length-map}
+use lib.ListN.{length, take, getD, set, replicate, length-append, length-map}
 use lib.Seq.{sets, length-sets, take-length, length-take-le}
 use lib.Dec.{leb}
-use Rattle.format.specs.Format.{number, encode, encodeNumber, concatMap, size}
+use Rattle.format.specs.Format.{number, encode, encodeNumber, concatMap, size, total}
 use Rattle.format.specs.Fault.{holdsZero, tooLong}
 use Rattle.format.proofs.Faults.{any-never}
-use Rattle.format.proofs.Width.{size-is-length}
 use Rattle.protocol.specs.Kind.{channelLevelFormat}
 use Rattle.put.specs.Put.{Writes, limit, capped, Weighs, settled, putJudged, putAt}
 use Rattle.put.specs.declared.Put.{Put}
@@ -74,9 +73,19 @@ upto at ls i out = byNumber (numberOf at (length ls) (length out)) (sets out at 
 
 -- ---- what the functions over numbers come to
 
-pub number-is : {n len : ℕ} (at count room : ℕ) → Weighs n false (leb 65536 count) at len room → len ≡ capped (2 + 4 * count) → n ≡ numberOf at count room
+total-of : (n : ℕ) → total (size channelLevelFormat) (replicate n (0, (0, 0))) ≡ 4 * n
+unfolding total size
+total-of zero = refl
+total-of (suc n) = rw (total-of n) (omega arith)
+
+-- the size of a list of so many records
+pub size-of : (count : ℕ) → size chls (replicate count (0, (0, 0))) ≡ 2 + 4 * count
+unfolding size
+size-of count = rw (total-of count) refl
+
+pub number-is : {n len : ℕ} (at count room : ℕ) → Weighs n false (leb 65536 count) at len room → len ≡ capped (size chls (replicate count (0, (0, 0)))) → n ≡ numberOf at count room
 unfolding numberOf
-number-is at count room w e = rw e at (w .weighs) ∙ weighed-capped false (leb 65536 count) at (2 + 4 * count) room
+number-is at count room w e = rw (e, size-of count) at (w .weighs) ∙ weighed-capped false (leb 65536 count) at (2 + 4 * count) room
 
 -- a list that is taken
 pub record Taken (at count room : ℕ) : Type 0 where
@@ -99,12 +108,12 @@ module _ {n : ℕ} (at count : ℕ) where
   unfolding due begun
   begin-refused out e h = rw (← e) (sym (by-refused _ _ _ h), sym (by-refused _ _ _ h))
 
-  pub finish-taken : {len place : ℕ} (room : ℕ) → n ≡ numberOf at count room → n ≡ 0 → len ≡ capped (2 + 4 * count) → place ≡ capped (at + len)
+  pub finish-taken : {len place : ℕ} (room : ℕ) → n ≡ numberOf at count room → n ≡ 0 → len ≡ capped (size chls (replicate count (0, (0, 0)))) → place ≡ capped (at + len)
       → _≡_ {A = Put} (record { number = 0; at = place }) (answerOf at count room)
   unfolding answerOf
   finish-taken {len} {place} room e z l p =
       let within = taken at count room (sym e ∙ z) .within in
-      let is : place ≡ at + (2 + 4 * count) = omega arith in
+      let is : place ≡ at + (2 + 4 * count) = omega (arith, size-of count) in
       rw (← e, z, is) refl
 
   pub finish-refused : (room : ℕ) → n ≡ numberOf at count room → (n ≡ 0 → ⊥) → _≡_ {A = Put} (record { number = n; at = at }) (answerOf at count room)
@@ -182,6 +191,3 @@ unfolding answerOf putJudged numberOf
 write-is {i = i} at ls out e d =
     rw (e, upto-all at ls i out d, no-zero ls, too-long ls, length-body ls)
     (settles (numberOf at (length ls) (length out)) at (at + (2 + 4 * length ls)) (encode chls (map levelValue ls)) out (rw (length-body ls) refl))
-
-pub size-is : {r : ℕ} (ls : List ChannelLevel) → r ≡ capped (2 + 4 * length ls) → r ≡ capped (size chls (map levelValue ls))
-size-is ls e = rw (size-is-length chls (map levelValue ls), length-body ls) e

@@ -1,4 +1,3 @@
 pub mod Again
-pub mod Cut
 pub mod Handing
 pub mod Levels

@@ -1,16 +1,15 @@
 // The channel list of the SDMX layer, written from the caller's own records.
 // A function over a slice of structs is proved by hand, so `write_to_bytes` only passes on: every decision is in functions over numbers and one record.
-ghost use Prim.Native.Nat.{_+_, _*_, _≤_, min};
+ghost use Prim.Native.Nat.{_+_, _*_, _≤_};
 ghost use mathlib.Core.Path.{_≡_};
 ghost use mathlib.Core.List.{map};
-ghost use lib.ListN.{length, take};
+ghost use lib.ListN.{length, replicate};
 ghost use lib.Seq.{sets};
 ghost use Rattle.format.specs.Format.{encode, size};
 ghost use Rattle.protocol.specs.Kind.{channelLevelFormat};
 ghost use Rattle.put.specs.Put.{capped, putAt, Writes};
 ghost use Rattle.sdmx.specs.Says.{chls};
 ghost use Rattle.chls.specs.Levels.{levelValue, numberOf, due, begun, answerOf};
-use put::LIMIT;
 use put::Put;
 use put::more;
 use put::put_number_2;
@@ -19,28 +18,19 @@ use put::put_u16;
 use put::weigh;
 use sdmx::ChannelLevel;
 
-// The size of a list of so many records.
-fn list_size(count: usize) -> usize
-    ensures { λ r. ⌜ r ≡ capped (2 + 4 * count) ⌝ }
+// The size of a list of so many records, whatever they hold; at most usize::MAX.
+pub fn size_bytes(count: usize) -> usize
+    ensures { λ r. ⌜ r ≡ capped (size chls (replicate count (0, (0, 0)))) ⌝ }
 {
-    if LIMIT < count {
-        return LIMIT + 1;
-    }
-    more(2, 4 * count)
-}
-
-// The size of the body; past the largest packet it is given as one byte more than that packet.
-pub fn size_bytes(channel_levels: &[ChannelLevel]) -> usize
-    ensures { λ r. ⌜ r ≡ capped (size chls (map levelValue (now («channel_levels» .entry)))) ⌝ }
-{
-    list_size(channel_levels.len())
+    let twice = more(count, count);
+    more(2, more(twice, twice))
 }
 
 // The number of a write of so many records.
 fn number_of(at: usize, count: usize, room: usize) -> u8
     ensures { λ r. ⌜ r ≡ numberOf at count room ⌝ }
 {
-    weigh(false, 65536 <= count, at, list_size(count), room)
+    weigh(false, 65536 <= count, at, size_bytes(count), room)
 }
 
 fn put_level(out: &mut [u8], at: usize, level: ChannelLevel) -> usize
@@ -80,7 +70,7 @@ fn finish(at: usize, count: usize, room: usize) -> Put
     }
     Put {
         number: 0,
-        at: more(at, list_size(count)),
+        at: more(at, size_bytes(count)),
     }
 }
 
@@ -94,26 +84,4 @@ pub fn write_to_bytes(out: &mut [u8], at: usize, channel_levels: &[ChannelLevel]
         i = step(out, at, i, channel_levels[i]);
     }
     finish(at, count, out.len())
-}
-
-fn at_most_16(count: usize) -> usize
-    ensures { λ r. ⌜ r ≡ min count 16 ⌝ }
-{
-    if count < 16 {
-        return count;
-    }
-    16
-}
-
-// The first of sixteen records by value, all of them where the count is larger: a caller of this one needs no proof by hand.
-pub fn write_first(
-    out: &mut [u8],
-    at: usize,
-    channel_levels: [ChannelLevel; 16],
-    count: usize,
-) -> Put
-    ensures { λ r. ⌜ (r, now (out .exit)) ≡ putAt chls (map levelValue (take count «channel_levels»)) at (now (out .entry)) ⌝ }
-{
-    let n = at_most_16(count);
-    write_to_bytes(out, at, &channel_levels[..n])
 }

@@ -16,7 +16,6 @@ use fixture::Identifiers;
 use fixture::IdentifiersNext;
 use libc::STDIN_FILENO;
 use libc::STDOUT_FILENO;
-use sdmx::ChannelLevel;
 use turns::Kind;
 use wire::Block;
 use writer::Writer;
@@ -29,8 +28,6 @@ type Label = [u8; 24];
 const IDENTIFIER_DATA: Label = *b"identifier data         ";
 
 const CAPABILITIES: Label = *b"capabilities            ";
-
-const CHANNEL_LEVELS: Label = *b"channel levels          ";
 
 const FEED_NAMES: Label = *b"laser feed names        ";
 
@@ -251,14 +248,6 @@ fn give_names(out: &mut [u8], head: Written, count: usize) -> Written {
 fn give(out: &mut [u8], w: Writer, kind: Kind, count: usize) -> Written {
     match kind {
         Kind::Capa => w.capa(out, first(&[1; 65536], count)),
-        Kind::ChLs => {
-            let full = ChannelLevel {
-                universe_index: 0,
-                channel: 511,
-                channel_level: 255,
-            };
-            w.chls_first(out, [full; 16], count)
-        }
         Kind::LaserFeedList => {
             let head = w.laser_feed_list_head(out, 1, count);
             give_names(out, head, count)
@@ -299,9 +288,6 @@ fn write_edges() {
     // 'Where a call stops': 13 where the output is shorter than the place after the call, and 12 before 13.
     packet_edge(CAPABILITIES, Kind::Capa, 65535, 131095);
     packet_edge(CAPABILITIES, Kind::Capa, 65536, 131095);
-    // A packet of 16 has 24 + 2 + 16 * 4 bytes.
-    packet_edge(CHANNEL_LEVELS, Kind::ChLs, 16, 90);
-    packet_edge(CHANNEL_LEVELS, Kind::ChLs, 16, 89);
     // 'Edges': 256 laser feed names are 12. A packet of 255 has 24 + 5 + 255 * 4 bytes.
     packet_edge(FEED_NAMES, Kind::LaserFeedList, 255, 1049);
     packet_edge(FEED_NAMES, Kind::LaserFeedList, 256, 1049);

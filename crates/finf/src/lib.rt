@@ -1,5 +1,5 @@
 // The FINF layer: fixture information.
-// A size past the largest packet is given as one byte more than that packet; a size's contract has 0 for each number, whose width is fixed.
+// A size is at most usize::MAX; its contract has 0 for each number, whose width is fixed.
 ghost use mathlib.Core.Path.{_≡_};
 ghost use Rattle.format.specs.Format.{size};
 ghost use Rattle.format.specs.View.{view};

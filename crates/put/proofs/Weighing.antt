@@ -15,7 +15,7 @@ weighed-past : (zeros long : Bool) (x y room : ℕ) → limit < x → limit < y 
 weighed-past zeros long x y room h k = rw (lt-ltb limit x h, lt-ltb limit y k) refl
 
 pub weighed-capped : (zeros long : Bool) (at x room : ℕ) → weighed limit zeros long (at + capped x) room ≡ weighed limit zeros long (at + x) room
-weighed-capped zeros long at x room = split x 16777217
+weighed-capped zeros long at x room = split x 18446744073709551615
     (λ h. rw (min-eq-left h) refl)
     (λ h. weighed-past zeros long (at + capped x) (at + x) room (omega arith) (omega arith))
 

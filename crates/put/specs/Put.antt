@@ -23,9 +23,9 @@ pub record Writes (f : Format) (v : Value f) (at : ℕ) (before : List ℕ) (pla
 abbrev pub limit : ℕ
 limit = 16777216
 
--- a number of bytes; past the largest packet the next one stands for them all, so that no sum of the code wraps
+-- a number of bytes, at most usize::MAX, which no memory holds: no sum of the code wraps
 abbrev pub capped : ℕ → ℕ
-capped n = min n 16777217
+capped n = min n 18446744073709551615
 
 -- the number of a write of len bytes at a place of an output of room bytes
 pub record Weighs (number : ℕ) (zeros long : Bool) (at len room : ℕ) : Type 0 where

@@ -262,15 +262,12 @@ pub fn u32_list_size(numbers: &[u32]) -> usize
     2 + numbers.len() * 4
 }
 
-// The sum, or a number past every packet's end.
+// The sum, at most usize::MAX.
 pub fn more(a: usize, b: usize) -> usize
     ensures { λ r. ⌜ r ≡ capped (a + b) ⌝ }
 {
-    if LIMIT < a {
-        return LIMIT + 1;
-    }
-    if LIMIT - a < b {
-        return LIMIT + 1;
+    if usize::MAX - a < b {
+        return usize::MAX;
     }
     a + b
 }

@@ -134,9 +134,9 @@ moved n place t w z = rw z (refl, refl)
 -- ---- a channel list
 
 -- a write placed past the largest packet's end leaves the output as it was
-past-end : (f : Format) (v : Value f) (o : List ℕ) {p : Put} {after : List ℕ} → _≡_ {A = Put × List ℕ} (p, after) (putAt f v 16777217 o) → after ≡ o
-past-end f v o e = ap (λ (x : Put × List ℕ). x .1) (answer-kept _ _ f v 16777217 o e (λ z.
-    let n = passed (holdsZero f v) (tooLong f v) (16777217 + length (encode f v)) (length o) (sym (answer-number _ _ f v 16777217 o e) ∙ z) in
+past-end : (f : Format) (v : Value f) (o : List ℕ) {p : Put} {after : List ℕ} → _≡_ {A = Put × List ℕ} (p, after) (putAt f v (limit + 1) o) → after ≡ o
+past-end f v o e = ap (λ (x : Put × List ℕ). x .1) (answer-kept _ _ f v (limit + 1) o e (λ z.
+    let n = passed (holdsZero f v) (tooLong f v) (limit + 1 + length (encode f v)) (length o) (sym (answer-number _ _ f v (limit + 1) o e) ∙ z) in
     absurd (omega (arith, n .within))))
 
 -- its place, its write's answer and its own make what the call does

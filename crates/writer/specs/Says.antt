@@ -1,9 +1,10 @@
 -- Which state of the definition a state of the code is, and what a call's answer says.
-use Prim.Native.Nat.{ℕ, zero, suc}
+use Prim.Native.Nat.{ℕ, zero, suc, _+_}
 use mathlib.Core.Bool.{Bool, _&&_}
 use mathlib.Core.List.{List}
 use Rattle.format.specs.Format.{pick}
 use Rattle.protocol.specs.Kind.{ChLs}
+use Rattle.put.specs.Put.{limit}
 use Rattle.put.specs.declared.Put.{Put}
 use Rattle.writing.specs.Writer as writing
 use Rattle.writing.specs.Writer.{Outcome}
@@ -29,7 +30,7 @@ chlsDue w = writing.isBody ChLs (w .turn) && writing.behindHeaders (w .turn) (w 
 
 -- where it is written: past the largest packet's end where it is not due, so that nothing is
 abbrev pub chlsPlace : writing.Writer → ℕ
-chlsPlace w = pick (chlsDue w) (w .at) 16777217
+chlsPlace w = pick (chlsDue w) (w .at) (limit + 1)
 
 -- the number that its call answers, from what its write does
 abbrev pub chlsNumber : Put → writing.Writer → ℕ

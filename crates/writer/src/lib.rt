@@ -6,7 +6,6 @@ ghost use Rattle.protocol.specs.Kind as kinds;
 ghost use Rattle.writing.specs.Call.{opens, give, closes, body, laserFeedList, feedName, laserFeedFrame, laserPoint, fixtureList, fixture, identifier, fixtureData};
 ghost use Rattle.writing.specs.Writer.{apply, idle, isIdle, isBody, isItem, isIdentifier, isData, isClose, behindHeaders};
 ghost use mathlib.Core.List.{map};
-ghost use lib.ListN.{take};
 ghost use Rattle.chls.specs.Levels.{levelValue};
 ghost use Rattle.caex.specs.Codes.{messageTypeCode};
 ghost use Rattle.caex.specs.Write.{pointValue};
@@ -22,7 +21,6 @@ use caex::LaserFeedControl;
 use caex::LaserFeedFrame;
 use caex::LaserFeedList;
 use caex::LaserPoint;
-use chls::write_first;
 use chls::write_to_bytes;
 use finf::Fram;
 use finf::SFra;
@@ -269,7 +267,7 @@ impl Writer {
     }
 
     // Where a channel list is written: past the largest packet's end where it is not due, so that nothing is.
-    pub fn chls_place(self) -> usize
+    fn chls_place(self) -> usize
         ensures { λ r. ⌜ r ≡ chlsPlace (stateOf self) ⌝ }
     {
         if self.body_is_due(Kind::ChLs) {
@@ -278,7 +276,7 @@ impl Writer {
         LIMIT + 1
     }
 
-    pub fn after_chls(self, put: Put) -> Written
+    fn after_chls(self, put: Put) -> Written
         ensures { λ r. ⌜ (r .number ≡ chlsNumber put (stateOf self)) × (stateOf (r .writer) ≡ chlsState put (stateOf self)) ⌝ }
     {
         if self.body_is_due(Kind::ChLs) {
@@ -293,20 +291,6 @@ impl Writer {
     {
         let at = self.chls_place();
         let put = write_to_bytes(out, at, channel_levels);
-        self.after_chls(put)
-    }
-
-    // The first of sixteen records by value, all of them where the count is larger: a caller of this one needs no proof by hand.
-    pub fn chls_first(
-        self,
-        out: &mut [u8],
-        channel_levels: [ChannelLevel; 16],
-        count: usize,
-    ) -> Written
-        ensures { λ r. ⌜ writtenSays r (now (out .exit)) ≡ apply (give (body kinds.ChLs (map levelValue (take count «channel_levels»)))) (stateOf self) (now (out .entry)) ⌝ }
-    {
-        let at = self.chls_place();
-        let put = write_first(out, at, channel_levels, count);
         self.after_chls(put)
     }
 
