@@ -4,3 +4,4 @@ pub mod Headers
 pub mod Found
 pub mod Rows
 pub mod Arms
+pub mod Bodies
