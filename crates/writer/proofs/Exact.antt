@@ -16,8 +16,9 @@ isState w = record { turn = isTurn (w .turn); at = w .at }
 pub state-exact : (w : Writer) → w ≡ isState (stateOf w)
 state-exact w = ap (λ (t : Turn). record { turn = t; at = w .at }) (turn-exact (w .turn))
 
-abbrev isWritten : Outcome → Written
-isWritten r = record { number = r .number; writer = isState (r .writer) }
+-- with the output after it
+abbrev isWritten : Outcome → Written × List ℕ
+isWritten r = (record { number = r .number; writer = isState (r .writer) }, r .output)
 
-pub written-exact : (r : Written) (out : List ℕ) → r ≡ isWritten (writtenSays r out)
-written-exact r out = ap (λ (w : Writer). record { number = r .number; writer = w }) (state-exact (r .writer))
+pub written-exact : (r : Written) (out : List ℕ) → (r, out) ≡ isWritten (writtenSays r out)
+written-exact r out = ap (λ (w : Writer). (record { number = r .number; writer = w }, out)) (state-exact (r .writer))
