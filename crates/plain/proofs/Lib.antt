@@ -2,3 +2,4 @@ pub mod Told
 pub mod Calls
 pub mod Fields
 pub mod Widths
+pub mod Exact

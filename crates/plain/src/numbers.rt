@@ -1,6 +1,6 @@
 // The numbers of a fixture's data as plain fields.
 ghost use mathlib.Core.Path.{_≡_};
-ghost use Rattle.fixture.specs.Says.{dataNumbers};
+ghost use Rattle.fixture.specs.Says.{dataNumbers, FloatsRead};
 ghost use Rattle.plain.specs.Numbers.{flatNumbers, numbersIn};
 use fixture::FixtureData;
 use fixture::FloatBits;
@@ -56,8 +56,9 @@ pub fn no_numbers() -> FixtureNumbers
     }
 }
 
+// The floats are those of their bits, which stand beside them.
 pub fn fixture_data(x: FixtureNumbers) -> FixtureData
-    ensures { λ r. ⌜ dataNumbers r ≡ numbersIn x ⌝ }
+    ensures { λ r. ⌜ (dataNumbers r ≡ numbersIn x) × FloatsRead r ⌝ }
 {
     FixtureData::from_bits(
         Patch {
