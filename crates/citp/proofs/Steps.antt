@@ -1,54 +1,20 @@
 -- The step, by what its parts tell: the rest of the stream, the base header, the packet cut out of it.
 use Prim.Native.Nat.{ℕ, zero, suc, _+_, _-_, _≤_, _<_}
 use mathlib.Core.Path.{_≡_, refl, sym, ap, _∙_}
-use mathlib.Core.Bool.{Bool, true, false, not, _||_}
+use mathlib.Core.Bool.{Bool, true, false}
 use mathlib.Core.List.{List}
-use native.Mathlib.Nat.{suc-ne-zero}
 use native.Mathlib.Omega.{arith}
-use borrow.Author.Tests.{ne-eqb, le-ltb, ltb-false}
+use borrow.Author.Tests.{ne-eqb, le-ltb}
 use lib.ListN.{length, take, drop, length-take, length-drop, drop-of-length-le}
 use lib.Seq.{take-all, length-take-le}
-use lib.Dec.{eqb, ltb}
+use lib.Dec.{ltb}
 use Rattle.format.specs.Format.{Value, Read, got, refused, pick, decode}
 use Rattle.format.specs.View.{View, Seen, seen, missed, view, placed, place}
-use Rattle.format.specs.Walk.{Step, stop, report}
-use Rattle.format.proofs.Bools.{neither}
-use Rattle.protocol.specs.Layer.{header, citp, limit, cookieField, majorField, requestField, sizeField}
-use Rattle.protocol.specs.Step.{Content, Report, contentAt, cut, headed, stepRest, stepAt}
+use Rattle.format.specs.Walk.{stop, report}
+use Rattle.protocol.specs.Layer.{header, requestField, sizeField}
+use Rattle.protocol.specs.Step.{Content, contentAt, startNumber, started, headed, stepRest, stepAt}
+use Rattle.protocol.proofs.Steps.{starts}
 use Rattle.protocol.proofs.Found.{header-within}
-use Rattle.citp.specs.Says.{startNumber}
-
--- ---- the base header
-
-abbrev begun : ℕ → List ℕ → Value header → ℕ → Step (Report View)
-begun at rest h zero = cut at rest h
-begun at rest h (suc n) = stop (suc n) at
-
-headed-as : (at : ℕ) (rest : List ℕ) (h : Value header) (t : List ℕ) → headed at rest (got h t) ≡ begun at rest h (startNumber h (length rest))
-headed-as at rest h t =
-    by (not (eqb (cookieField h) citp)) (not (eqb (majorField h) 1)) (ltb (sizeField h) 20 || ltb limit (sizeField h)) (ltb (length rest) (sizeField h))
-  where
-    by : (a b c d : Bool) → pick a (stop 2 at) (pick b (stop 3 at) (pick c (stop 4 at) (pick d (stop 5 at) (cut at rest h))))
-        ≡ begun at rest h (pick a 2 (pick b 3 (pick c 4 (pick d 5 0))))
-    by true b c d = refl
-    by false true c d = refl
-    by false false true d = refl
-    by false false false true = refl
-    by false false false false = refl
-
--- what the number 0 tells of the size
-pub start-fits : (h : Value header) (left : ℕ) → startNumber h left ≡ 0 → (20 ≤ sizeField h) × (sizeField h ≤ left)
-start-fits h left e =
-    by (not (eqb (cookieField h) citp)) (not (eqb (majorField h) 1)) (ltb (sizeField h) 20 || ltb limit (sizeField h)) (ltb left (sizeField h)) refl refl e
-  where
-    by : (a b c d : Bool) → (ltb (sizeField h) 20 || ltb limit (sizeField h)) ≡ c → ltb left (sizeField h) ≡ d
-        → _≡_ {A = ℕ} (pick a 2 (pick b 3 (pick c 4 (pick d 5 0)))) 0 → (20 ≤ sizeField h) × (sizeField h ≤ left)
-    by true b c d p q e = absurd (omega arith)
-    by false true c d p q e = absurd (omega arith)
-    by false false true d p q e = absurd (omega arith)
-    by false false false true p q e = absurd (omega arith)
-    by false false false false p q e =
-        (ltb-false (sizeField h) 20 (neither (ltb (sizeField h) 20) (ltb limit (sizeField h)) p .0), ltb-false left (sizeField h) q)
 
 abbrev valueIn : Value header → Seen (View header) → Value header
 valueIn d (seen v e) = v
@@ -81,27 +47,28 @@ module _ (s : List ℕ) (at : ℕ) where
       by false (got h t) q = cc
       by false (refused n) q = refl
 
-  begins : {h : Value header} {e : ℕ} → view header left 0 ≡ seen h e → stepAt s at ≡ begun at (drop at s) h (startNumber h (length (drop at s)))
+  begins : {h : Value header} {e : ℕ} → view header left 0 ≡ seen h e → stepAt s at ≡ started at (drop at s) h (startNumber h (length (drop at s)))
   unfolding stepAt view placed place
   begins {h} {e} q = by (decode header (drop at s)) refl (rw left-is at q)
     where
-      by : (r : Read (Value header)) → decode header (drop at s) ≡ r → placed header 0 r ≡ seen h e → stepRest at (drop at s) ≡ begun at (drop at s) h (startNumber h (length (drop at s)))
+      by : (r : Read (Value header)) → decode header (drop at s) ≡ r → placed header 0 r ≡ seen h e
+          → stepRest at (drop at s) ≡ started at (drop at s) h (startNumber h (length (drop at s)))
       by (got v t) d q =
           let same : v ≡ h = ap (valueIn h) q in
           let long : 20 ≤ length (drop at s) = header-within v (drop at s) t d in
-          rw (ne-eqb (length (drop at s)) 0 (omega arith), le-ltb (length (drop at s)) 20 long, d, same) (headed-as at (drop at s) h t)
+          rw (ne-eqb (length (drop at s)) 0 (omega arith), le-ltb (length (drop at s)) 20 long, d, same)
       by (refused n) d q = cc
 
   pub step-stopped : {h : Value header} {e n : ℕ} → view header left 0 ≡ seen h e → n ≡ startNumber h (length left) → (n ≡ 0 → ⊥) → stop n at ≡ stepAt s at
-  step-stopped {h} {e} {n} q m z = on n z ∙ ap (begun at (drop at s) h) (m ∙ ap (λ (x : List ℕ). startNumber h (length x)) left-is) ∙ sym (begins q)
+  step-stopped {h} {e} {n} q m z = on n z ∙ ap (started at (drop at s) h) (m ∙ ap (λ (x : List ℕ). startNumber h (length x)) left-is) ∙ sym (begins q)
     where
-      on : (n : ℕ) → (n ≡ 0 → ⊥) → stop n at ≡ begun at (drop at s) h n
+      on : (n : ℕ) → (n ≡ 0 → ⊥) → stop n at ≡ started at (drop at s) h n
       on zero z = absurd (z refl)
       on (suc n) z = refl
 
   -- the packet is there whole
   pub packet-whole : (h : Value header) {n : ℕ} → n ≡ startNumber h (length left) → n ≡ 0 → sizeField h ≤ length left
-  packet-whole h m z = start-fits h (length left) (sym m ∙ z) .1
+  packet-whole h m z = starts h (length left) (sym m ∙ z) .within
 
   pub packet-before : (h : Value header) {p : List ℕ} → p ≡ take (sizeField h) left → length p ≤ at + sizeField h
   packet-before h c = rw (c, length-take) (omega arith)
@@ -110,9 +77,9 @@ module _ (s : List ℕ) (at : ℕ) where
       → end ≡ at + sizeField h → p ≡ take (sizeField h) left → x ≡ contentAt (end - length p) h p
       → report (record { offset = at; size = sizeField h; request = requestField h; content = x }) end ≡ stepAt s at
   step-packet {h} {e} {n} {end} {p} {x} q m z f c is =
-      let starts : startNumber h (length (drop at s)) ≡ 0 = sym (ap (λ (r : List ℕ). startNumber h (length r)) left-is) ∙ sym m ∙ z in
-      let fits = start-fits h (length (drop at s)) starts in
-      let whole : length (take (sizeField h) (drop at s)) ≡ sizeField h = length-take-le (sizeField h) (drop at s) (fits .1) in
+      let may : startNumber h (length (drop at s)) ≡ 0 = sym (ap (λ (r : List ℕ). startNumber h (length r)) left-is) ∙ sym m ∙ z in
+      let fits = starts h (length (drop at s)) may .within in
+      let whole : length (take (sizeField h) (drop at s)) ≡ sizeField h = length-take-le (sizeField h) (drop at s) fits in
       let start : at + sizeField h - sizeField h ≡ at = omega arith in
       let held : x ≡ contentAt at h (take (sizeField h) (drop at s)) = is ∙ rw (c, left-is, whole, f, start) in
-      rw (held, f) (sym (begins q ∙ ap (begun at (drop at s) h) starts))
+      rw (held, f) (sym (begins q ∙ ap (started at (drop at s) h) may))

@@ -1,11 +1,10 @@
 -- What the walk's answers say.
 use Prim.Native.Nat.{ℕ, _-_}
-use mathlib.Core.Bool.{Bool, _||_, not}
+use mathlib.Core.Bool.{Bool}
 use mathlib.Core.List.{List}
 use mathlib.Core.Option.{Option, none, some}
 use lib.ListN.{length, take, drop}
-use lib.Dec.{eqb, ltb}
-use Rattle.format.specs.Format.{Format, number, _&_, Value, pick}
+use Rattle.format.specs.Format.{Format, number, _&_, pick}
 use Rattle.format.specs.View.{View, Seen, seen, missed}
 use Rattle.format.specs.Walk.{stop, report}
 use Rattle.format.specs.Walk as walk
@@ -40,14 +39,6 @@ layerHeaderSays layer-header.Short = missed 7
 -- a body of a layer that ends at an offset of the stream
 abbrev pub contentIn : layer.Layer → LayerHeader → ℕ → List ℕ → spec.Content View
 contentIn l h end body = spec.contentOf l (end - length body) (length body) (h .«content_type») (h .«content_hint») (spec.readBody l (h .«content_type») body)
-
--- the number with which a packet's start is refused where so many bytes are left, or 0
-abbrev pub startNumber : Value layer.header → ℕ → ℕ
-startNumber h left =
-    pick (not (eqb (layer.cookieField h) layer.citp)) 2
-    (pick (not (eqb (layer.majorField h) 1)) 3
-    (pick (ltb (layer.sizeField h) 20 || ltb layer.limit (layer.sizeField h)) 4
-    (pick (ltb left (layer.sizeField h)) 5 0)))
 
 -- a message's kind, its fields and its content hint
 abbrev pub messageKind : Message → kind.Kind

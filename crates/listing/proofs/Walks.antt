@@ -1,23 +1,19 @@
 -- The listing of a stream, written packet by packet.
 use Prim.Native.Nat.{ℕ, zero, suc, _+_, _-_, _≤_, _<_}
-use mathlib.Core.Path.{_≡_, refl, sym, ap, _∙_}
-use mathlib.Core.Bool.{Bool, true, false, not, _||_}
-use mathlib.Core.List.{List, [], _∷_, _++_, append-assoc}
+use mathlib.Core.Path.{_≡_, refl, ap, _∙_}
+use mathlib.Core.List.{List, _++_, append-assoc}
 use mathlib.Core.Option.{some}
 use native.Mathlib.Nat.{zero-add, add-zero, sub-zero, zero-sub}
 use native.Mathlib.Omega.{arith}
-use borrow.Author.Tests.{ltb-false}
 use borrow.Author.Needs as kit
 use lib.ListN.{length, drop, length-drop}
 use lib.Seq.{sets}
-use lib.Dec.{eqb, ltb}
-use Rattle.format.specs.Format.{Value, Read, got, refused, pick, decode, concatMap}
+use Rattle.format.specs.Format.{concatMap}
 use Rattle.format.specs.View.{View}
 use Rattle.format.specs.Walk.{Step, stop, report, Walked, follow, walkFrom}
-use Rattle.format.proofs.Bools.{neither}
 use Rattle.format.proofs.Chain.{met}
-use Rattle.protocol.specs.Layer.{header, citp, limit, cookieField, majorField, sizeField}
-use Rattle.protocol.specs.Step.{Report, headed, stepAt, walk}
+use Rattle.protocol.specs.Step.{Report, stepAt, walk}
+use Rattle.protocol.proofs.Steps.{reported}
 use Rattle.text.specs.Prints.{Prints}
 use Rattle.text.proofs.Loops.{Onto, onto-none, onto-more}
 use Rattle.citp.specs.Says.{packetSays, stepSays}
@@ -27,39 +23,9 @@ use Rattle.citp.specs.declared.Step as declared
 use Rattle.citp.specs.declared.Step.the-variants as step
 use Rattle.listing.specs.Listing.{reportLines, endLines, endedLines, listing, Part}
 
--- ---- a step goes on within the stream
-
-data Moves (at last : ℕ) : Step (Report View) → Type 0 where
-  stays : {n o : ℕ} → Moves at last (stop n o)
-  goes : {r : Report View} {next : ℕ} → at < next → next ≤ last → Moves at last (report r next)
-
-moves-pick : {at last : ℕ} (b : Bool) {x y : Step (Report View)} → Moves at last x → (b ≡ false → Moves at last y) → Moves at last (pick b x y)
-moves-pick true h k = h
-moves-pick false h k = k refl
-
-moves-headed : (s : List ℕ) (at : ℕ) (x : Read (Value header)) → Moves at (length s) (headed at (drop at s) x)
-moves-headed s at (refused n) = stays
-moves-headed s at (got h t) =
-    moves-pick (not (eqb (cookieField h) citp)) stays λ _.
-    moves-pick (not (eqb (majorField h) 1)) stays λ _.
-    moves-pick (ltb (sizeField h) 20 || ltb limit (sizeField h)) stays λ z.
-    moves-pick (ltb (length (drop at s)) (sizeField h)) stays λ l.
-    let least : 20 ≤ sizeField h = ltb-false (sizeField h) 20 (neither (ltb (sizeField h) 20) (ltb limit (sizeField h)) z .0) in
-    let most : sizeField h ≤ length (drop at s) = ltb-false (length (drop at s)) (sizeField h) l in
-    goes (omega arith) (omega (arith, length-drop at s))
-
-moves : (s : List ℕ) (at : ℕ) → Moves at (length s) (stepAt s at)
-unfolding stepAt
-moves s at =
-    moves-pick (eqb (length (drop at s)) 0) stays λ _.
-    moves-pick (ltb (length (drop at s)) 20) stays λ _.
-    moves-headed s at (decode header (drop at s))
-
-gone : {at last next : ℕ} {r : Report View} → Moves at last (report r next) → (at < next) × (next ≤ last)
-gone (goes a b) = (a, b)
-
+-- a step goes on within the stream
 moved : (s : List ℕ) (at : ℕ) {r : Report View} {next : ℕ} → stepAt s at ≡ report r next → (at < next) × (next ≤ length s)
-moved s at e = gone (rw e at (moves s at))
+moved s at e = let f = reported s at e in (omega arith, omega (arith, length-drop at s))
 
 -- ---- the loop
 

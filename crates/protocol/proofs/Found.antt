@@ -1,29 +1,30 @@
 -- The step finds each packet of demand 3 at its place, whatever follows.
-use Prim.Native.Nat.{ℕ, _+_, _-_, _^_, _≤_, _<_}
+use Prim.Native.Nat.{ℕ, zero, suc, _+_, _-_, _^_, _≤_, _<_}
 use mathlib.Core.Path.{_≡_, refl, sym, ap, _∙_}
-use mathlib.Core.Bool.{Bool, true, false, not, _||_}
+use mathlib.Core.Bool.{Bool, true, false, _||_}
 use mathlib.Core.List.{List, _++_, append-assoc}
 use mathlib.Core.Option.{none, some}
 use native.Mathlib.Omega.{arith}
-use borrow.Author.Tests.{le-ltb, ltb-false, ne-eqb, not-false}
+use borrow.Author.Tests.{le-ltb, ltb-false, ne-eqb}
 use lib.ListN.{length, take, drop, length-append, length-drop}
 use lib.Seq.{sets, take-at, drop-drop}
-use lib.Dec.{ltb, eqb}
-use Rattle.format.specs.Format.{Value, number, got, pick, decode, encode, size, Valid}
+use lib.Dec.{ltb}
+use Rattle.format.specs.Format.{Value, number, got, decode, encode, size, Valid}
 use Rattle.format.proofs.Bools.{neither}
 use Rattle.format.proofs.Reading.{given}
 use Rattle.format.proofs.Codec.{round-trip, read-on}
 use Rattle.format.proofs.Width.{size-is-length, size-is-width, decode-behind}
 use Rattle.format.specs.View.{View, seen, view, placed, place, look}
 use Rattle.format.proofs.Look.{holds}
-use Rattle.format.specs.Walk.{Step, stop, report}
-use Rattle.protocol.specs.Layer.{Layer, cookie, headerLength, hinted, header, layerHeader, citp, limit, cookieField, majorField, requestField, sizeField, countField, partField, layerField}
+use Rattle.format.specs.Walk.{Step, report}
+use Rattle.protocol.specs.Layer.{Layer, cookie, headerLength, hinted, header, layerHeader, limit, requestField, sizeField, countField, partField, layerField}
 use Rattle.protocol.specs.Kind.{layer, contentType, bodyOf, isRead}
 use Rattle.protocol.specs.Step as reported
 use Rattle.protocol.specs.Step.{Report, contentAt, stepRest, stepAt, readBody}
 use Rattle.protocol.specs.Message.{Message, headerOf, headersOf, packetSize, packet, Sendable, raised}
 use Rattle.protocol.proofs.Headers.{header-length, length-headers, size-stored, hint-told, headers-read, layer-read, behind-header, behind-headers}
 use Rattle.protocol.proofs.Lookup.{layer-found, no-layer, kind-found, no-kind}
+use Rattle.protocol.proofs.Steps.{Starts, start-zero, Does, halts, tells, step-does}
 use Rattle.protocol.specs.Packet.{ValidPacket, Whole, NoLayer, NoKind, HasLayer}
 
 -- ---- a packet by its base header
@@ -32,34 +33,28 @@ use Rattle.protocol.specs.Packet.{ValidPacket, Whole, NoLayer, NoKind, H
 abbrev pub reportOf : ℕ → Value header → List ℕ → Report View
 reportOf at h p = record { offset = at; size = length p; request = requestField h; content = contentAt at h p }
 
-pub step-headed : (at : ℕ) (p rest t : List ℕ) (h : Value header) → decode header (p ++ rest) ≡ got h t
-    → eqb (cookieField h) citp ≡ true → eqb (majorField h) 1 ≡ true → sizeField h ≡ length p → 20 ≤ length p → length p ≤ limit
+pub step-headed : (at : ℕ) (p rest t : List ℕ) (h : Value header) → decode header (p ++ rest) ≡ got h t → Starts h (length p) → sizeField h ≡ length p
     → stepRest at (p ++ rest) ≡ report (reportOf at h p) (at + length p)
-step-headed at p rest t h e c m z l l′ =
+step-headed at p rest t h e s z =
     let long : length (p ++ rest) ≡ length p + length rest = length-append p rest in
+    let least : 20 ≤ length p = rw z at (s .least) in
+    let more : Starts h (length (p ++ rest)) = record {
+      cookie-is = s .cookie-is;
+      major-is = s .major-is;
+      least = s .least;
+      most = s .most;
+      within = omega arith;
+    } in
     rw (
       ne-eqb (length (p ++ rest)) 0 (omega arith),
       le-ltb (length (p ++ rest)) 20 (omega arith),
       e,
-      c,
-      m,
+      start-zero more,
       z,
-      le-ltb (length p) 20 l,
-      le-ltb limit (length p) l′,
-      le-ltb (length (p ++ rest)) (length p) (omega arith),
       take-at p rest (length p) refl,
     )
 
 -- ---- packets that are valid by their base header
-
--- what the four tests of a packet that stands alone tell
-tests : {R : Type 0} (a b c d : Bool) (r : Step R)
-    → ((n : ℕ) → 1 ≤ n → n ≤ 5 → pick a (stop 2 0) (pick b (stop 3 0) (pick c (stop 4 0) (pick d (stop 5 0) r))) ≡ stop n 0 → ⊥)
-    → (a ≡ false) × (b ≡ false) × (c ≡ false)
-tests true b c d r h = absurd (h 2 (omega arith) (omega arith) refl)
-tests false true c d r h = absurd (h 3 (omega arith) (omega arith) refl)
-tests false false true d r h = absurd (h 4 (omega arith) (omega arith) refl)
-tests false false false d r h = (refl, refl, refl)
 
 pub header-within : (h : Value header) (s t : List ℕ) → decode header s ≡ got h t → 20 ≤ length s
 header-within h s t e =
@@ -67,35 +62,17 @@ header-within h s t e =
     let z = size-is-width header (tt, (tt, (tt, (tt, (tt, (tt, (tt, tt))))))) h in
     omega (arith, b, z)
 
--- what a packet that is valid by its base header has
-pub record Passing (h : Value header) (s : List ℕ) : Type 0 where
-  pub long : 20 ≤ length s
-  pub cookie-passes : eqb (cookieField h) citp ≡ true
-  pub major-passes : eqb (majorField h) 1 ≡ true
-  pub within : length s ≤ limit
-
-pub passing : (h : Value header) (s : List ℕ) → ValidPacket h s → Passing h s
-unfolding stepAt
-passing h s v =
-    let l : 20 ≤ length s = header-within h s (drop 20 s) (v .headed) in
-    let told : Step (Report View) = report (record { offset = 0; size = sizeField h; request = requestField h; content = contentAt 0 h (take (sizeField h) s) }) (0 + sizeField h) in
-    let alone : stepAt s 0 ≡ pick (not (eqb (cookieField h) citp)) (stop 2 0) (pick (not (eqb (majorField h) 1)) (stop 3 0)
-    (pick (ltb (sizeField h) 20 || ltb limit (sizeField h)) (stop 4 0) (pick (ltb (length s) (sizeField h)) (stop 5 0) told))) =
-    rw (ne-eqb (length s) 0 (omega arith), le-ltb (length s) 20 l, v .headed) in
-    let t = tests (not (eqb (cookieField h) citp)) (not (eqb (majorField h) 1)) (ltb (sizeField h) 20 || ltb limit (sizeField h)) (ltb (length s) (sizeField h)) told
-    (λ n p q e. v .passes n p q (alone ∙ e)) in
-    let most : sizeField h ≤ limit = ltb-false limit (sizeField h) (neither (ltb (sizeField h) 20) (ltb limit (sizeField h)) (t .2) .1) in
-    record {
-      long = l;
-      cookie-passes = not-false (eqb (cookieField h) citp) (t .0);
-      major-passes = not-false (eqb (majorField h) 1) (t .1);
-      within = rw (v .sized) at most;
-    }
+pub valid-starts : (h : Value header) (s : List ℕ) → ValidPacket h s → Starts h (length s)
+valid-starts h s v = by (stepAt s 0) refl (step-does s 0)
+  where
+    by : (x : Step (Report View)) → stepAt s 0 ≡ x → Does 0 s x → Starts h (length s)
+    by x e (halts {n = zero} l z) = absurd (omega (arith, z refl, header-within h s (drop 20 s) (v .headed)))
+    by x e (halts {n = suc n} l z) = absurd (v .passes (suc n) (omega arith) l e)
+    by x e (tells {h = g} d b) = let same : g ≡ h = cc (v .headed) in rw same at b
 
 pub step-valid : (at : ℕ) (s rest : List ℕ) (h : Value header) → ValidPacket h s → stepRest at (s ++ rest) ≡ report (reportOf at h s) (at + length s)
 step-valid at s rest h v =
-    let p = passing h s v in
-    step-headed at s rest (drop 20 s ++ rest) h (read-on header s rest (v .octets) (v .headed)) (p .cookie-passes) (p .major-passes) (v .sized) (p .long) (p .within)
+    step-headed at s rest (drop 20 s ++ rest) h (read-on header s rest (v .octets) (v .headed)) (valid-starts h s v) (v .sized)
 
 whole-test : (h : Value header) → Whole h → (ltb 1 (countField h) || ltb 0 (partField h)) ≡ false
 whole-test h w = rw (le-ltb 1 (countField h) (w .0), le-ltb 0 (partField h) (omega (arith, w .1)))
@@ -206,8 +183,15 @@ step-message at m added rest ok l =
     let small : n < 256 ^ 4 = omega arith in
     let read : decode header (sent m added ++ rest) ≡ got (headerOf (layer k) n (m .request)) (encode (layerHeader (layer k)) (contentType k, m .hint) ++ ((b ++ added) ++ rest)) =
     ap (decode header) (append-assoc f (b ++ added) rest) ∙ headers-read k n (m .request) (m .hint) ((b ++ added) ++ rest) small (ok .request-fits) in
+    let starts : Starts (headerOf (layer k) n (m .request)) (length (sent m added)) = record {
+      cookie-is = refl;
+      major-is = refl;
+      least = omega (arith, header-length (layer k));
+      most = l;
+      within = omega arith;
+    } in
     step-headed at (sent m added) rest (encode (layerHeader (layer k)) (contentType k, m .hint) ++ ((b ++ added) ++ rest)) (headerOf (layer k) n (m .request)) read
-    refl refl (sym long) (omega (arith, long, header-length (layer k))) (omega (arith, long))
+    starts (sym long)
 
 -- the value stands where the report's view says
 pub message-looked : (s : List ℕ) (at : ℕ) (m : Message) (added rest : List ℕ) → Sendable m → drop at s ≡ sent m added ++ rest

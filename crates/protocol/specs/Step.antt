@@ -1,5 +1,5 @@
 -- The report on each packet of a stream, and the step that gives it.
-use Prim.Native.Nat.{ℕ, _+_, _-_}
+use Prim.Native.Nat.{ℕ, zero, suc, _+_, _-_}
 use mathlib.Core.Bool.{_||_, not}
 use mathlib.Core.List.{List}
 use mathlib.Core.Option.{Option, none, some}
@@ -83,15 +83,23 @@ abbrev pub cut : (at : ℕ) (rest : List ℕ) → Value header → Step (Report 
 cut at rest h =
     report (record { offset = at; size = sizeField h; request = requestField h; content = contentAt at h (take (sizeField h) rest) }) (at + sizeField h)
 
--- by the base header: the rows of packet start, tested from the top
+-- rows 2 to 5 of packet start, tested from the top: the number with which a packet may not start where so many bytes are left, or 0
+abbrev pub startNumber : Value header → (left : ℕ) → ℕ
+startNumber h left =
+    pick (not (eqb (cookieField h) citp)) 2
+    (pick (not (eqb (majorField h) 1)) 3
+    (pick (ltb (sizeField h) 20 || ltb limit (sizeField h)) 4
+    (pick (ltb left (sizeField h)) 5 0)))
+
+-- 0 cuts the packet out, any other number stops the walk
+abbrev pub started : (at : ℕ) (rest : List ℕ) → Value header → (number : ℕ) → Step (Report View)
+started at rest h zero = cut at rest h
+started at rest h (suc n) = stop (suc n) at
+
+-- by the base header
 abbrev pub headed : (at : ℕ) (rest : List ℕ) → Read (Value header) → Step (Report View)
 headed at rest (refused n) = stop 1 at
-headed at rest (got h t) =
-    pick (not (eqb (cookieField h) citp)) (stop 2 at)
-    (pick (not (eqb (majorField h) 1)) (stop 3 at)
-    (pick (ltb (sizeField h) 20 || ltb limit (sizeField h)) (stop 4 at)
-    (pick (ltb (length rest) (sizeField h)) (stop 5 at)
-    (cut at rest h))))
+headed at rest (got h t) = started at rest h (startNumber h (length rest))
 
 -- an empty rest ends the walk with 0, 1 to 19 bytes with 1
 abbrev pub stepRest : (at : ℕ) (rest : List ℕ) → Step (Report View)

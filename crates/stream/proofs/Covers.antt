@@ -23,7 +23,7 @@ use Rattle.protocol.proofs.Lookup.{kind-found, kind-unread}
 use Rattle.stream.specs.Packets.{unknownKind, Admissible}
 use Rattle.stream.specs.Accepted.{Accepted}
 use Rattle.protocol.specs.Packet.{ValidPacket, HasLayer}
-use Rattle.protocol.proofs.Found.{passing, sent, length-sent, step-message}
+use Rattle.protocol.proofs.Found.{valid-starts, sent, length-sent, step-message}
 use Rattle.stream.proofs.Walked.{is-sent}
 
 -- ---- every packet of 20 bytes has a base header, every longer one of a known layer its layer header
@@ -46,7 +46,7 @@ has-layer-header l s h = plain-there (layerHeader l) (tt, tt) (drop 20 s) (omega
 
 pub valid-message : (h : Value header) (accepted added : List ℕ) → ValidPacket h (raised accepted added) → length accepted + length added ≤ limit
 valid-message h accepted added v =
-    omega (arith, passing h (raised accepted added) v .within, length-sets (accepted ++ added) 8 (encode (number 4) (length accepted + length added)), length-append accepted added)
+    omega (arith, v .sized, valid-starts h (raised accepted added) v .most, length-sets (accepted ++ added) 8 (encode (number 4) (length accepted + length added)), length-append accepted added)
 
 -- ---- what was accepted of a kind that the reader doesn't know
 

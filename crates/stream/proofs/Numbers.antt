@@ -1,25 +1,24 @@
 -- On every slice the walk ends; and every refusal has a number of the table for its place.
 use Prim.Native.Nat.{ℕ, _+_, _-_, _≤_, _<_}
 use mathlib.Core.Path.{_≡_, refl}
-use mathlib.Core.Bool.{Bool, true, false, not, _||_}
+use mathlib.Core.Bool.{Bool, true, false, _||_}
 use mathlib.Core.List.{List}
 use mathlib.Core.Option.{Option, none, some}
 use native.Mathlib.Omega.{arith}
-use borrow.Author.Tests.{eqb-true, ltb-false}
 use lib.ListN.{length, take, drop}
-use lib.Dec.{ltb, eqb}
+use lib.Dec.{ltb}
 use Rattle.format.specs.Format.{Value, Read, got, refused, pick, decode}
-use Rattle.format.proofs.Bools.{neither}
 use Rattle.format.specs.View.{View, view, placed}
-use Rattle.format.specs.Walk.{Step, stop, report}
+use Rattle.format.specs.Walk.{Step}
 use Rattle.format.proofs.Walks.{Steps, stops, goes, walk-ends}
 use Rattle.format.proofs.Copies.{cstring-copies, ucs2-copies, numbers-copies}
 use Rattle.format.proofs.Refusal.{codesWithin, Refuses, reads, refuses, refused-with, decode-refuses}
-use Rattle.protocol.specs.Layer.{Layer, headerLength, layerOf, header, layerHeader, citp, limit, cookieField, majorField, requestField, sizeField, countField, partField, layerField}
+use Rattle.protocol.specs.Layer.{Layer, headerLength, layerOf, header, layerHeader, sizeField, countField, partField, layerField}
 use Rattle.protocol.specs.Kind.{Kind, layer, bodyOf, kindOf, sameKind}
 use Rattle.protocol.specs.Kind.{FixtureList}
 use Rattle.protocol.proofs.Every.{every, every-kind}
-use Rattle.protocol.specs.Step.{Content, message, unknown, fragment, refusal, Report, Body, known, unread, refusedWith, bodySeen, bodyAs, readBody, contentOf, readLayerHeader, readLayer, contentAt, headed, stepAt, walk}
+use Rattle.protocol.specs.Step.{Content, message, unknown, fragment, refusal, Report, bodySeen, bodyAs, readBody, contentOf, readLayerHeader, readLayer, contentAt, stepAt, walk}
+use Rattle.protocol.proofs.Steps.{Does, halts, tells, step-does, stopped, reported}
 use Rattle.writing.proofs.Taken.{call-numbers as one-call}
 use Rattle.stream.specs.Claims as claims
 use Rattle.stream.specs.Claims.{highest}
@@ -86,51 +85,20 @@ row-content at h p =
     row-pick (ltb 1 (countField h) || ltb 0 (partField h)) (fragment (partField h) (countField h)) (readLayer at (layerField h) p (layerOf (layerField h))) tt
     (row-layer at (layerField h) p (layerOf (layerField h)))
 
--- what a step does: it stops with 0 to 5, with 0 only at the end; or reports a packet within the slice, refused with 6 to 10 if at all
-pub data Does (at left : ℕ) : Step (Report View) → Type 0 where
-  halts : {n : ℕ} → n ≤ 5 → (n ≡ 0 → left ≡ 0) → Does at left (stop n at)
-  tells : {r : Report View} → 0 < r .size → r .size ≤ left → Row (r .content) → Does at left (report r (at + r .size))
-
-does-pick : {at left : ℕ} (b : Bool) {x y : Step (Report View)} → (b ≡ true → Does at left x) → (b ≡ false → Does at left y) → Does at left (pick b x y)
-does-pick true h k = h refl
-does-pick false h k = k refl
-
-does-headed : (at : ℕ) (rest : List ℕ) (x : Read (Value header)) → Does at (length rest) (headed at rest x)
-does-headed at rest (refused n) = halts {n = 1} (omega arith) (λ e. absurd (omega arith))
-does-headed at rest (got h t) =
-    does-pick (not (eqb (cookieField h) citp)) (λ _. halts {n = 2} (omega arith) (λ e. absurd (omega arith))) λ _.
-    does-pick (not (eqb (majorField h) 1)) (λ _. halts {n = 3} (omega arith) (λ e. absurd (omega arith))) λ _.
-    does-pick (ltb (sizeField h) 20 || ltb limit (sizeField h)) (λ _. halts {n = 4} (omega arith) (λ e. absurd (omega arith))) λ z.
-    does-pick (ltb (length rest) (sizeField h)) (λ _. halts {n = 5} (omega arith) (λ e. absurd (omega arith))) λ l.
-    let least : 20 ≤ sizeField h = ltb-false (sizeField h) 20 (neither (ltb (sizeField h) 20) (ltb limit (sizeField h)) z .0) in
-    tells {r = record { offset = at; size = sizeField h; request = requestField h; content = contentAt at h (take (sizeField h) rest) }}
-    (omega arith) (ltb-false (length rest) (sizeField h) l) (row-content at h (take (sizeField h) rest))
-
-step-does : (s : List ℕ) (at : ℕ) → Does at (length (drop at s)) (stepAt s at)
-unfolding stepAt
-step-does s at =
-    let rest = drop at s in
-    does-pick (eqb (length rest) 0) (λ e. halts {n = 0} (omega arith) (λ _. eqb-true (length rest) 0 e)) λ _.
-    does-pick (ltb (length rest) 20) (λ _. halts {n = 1} (omega arith) (λ e. absurd (omega arith))) λ _.
-    does-headed at rest (decode header rest)
-
-stop-row : {at left n o : ℕ} → Does at left (stop n o) → (n ≤ 5) × (o ≡ at)
-stop-row (halts h z) = (h, refl)
-
-report-row : {at left next : ℕ} {r : Report View} → Does at left (report r next) → Row (r .content)
-report-row (tells p q h) = h
-
 pub step-numbers : claims.StepNumbers
 step-numbers s at = (
-  λ n o e. let d : Does at (length (drop at s)) (stop n o) = rw e at (step-does s at) in stop-row d,
-  λ r next n e c. let d : Does at (length (drop at s)) (report r next) = rw e at (step-does s at) in let h : Row (r .content) = report-row d in rw c at h,
+  λ n o e. stopped s at e,
+  λ r next n e c.
+      let f = reported s at e in
+      let h : Row (r .content) = rw (f .holds) (row-content at (f .base) (take (sizeField (f .base)) (drop at s))) in
+      rw c at h,
 )
 
 -- ---- the walk
 
-as-steps : {at left : ℕ} {x : Step (Report View)} → Does at left x → Steps (λ n. n ≤ 5) (λ (r : Report View). r .size) at left x
-as-steps (halts h z) = stops h z
-as-steps (tells p q h) = goes p q
+as-steps : {at : ℕ} {rest : List ℕ} {x : Step (Report View)} → Does at rest x → Steps (λ n. n ≤ 5) (λ (r : Report View). r .size) at (length rest) x
+as-steps (halts l z) = stops l z
+as-steps (tells {h} e s) = let full : 0 < sizeField h = omega (arith, s .least) in goes full (s .within)
 
 pub ends : claims.Ends
 unfolding walk

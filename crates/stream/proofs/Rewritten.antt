@@ -1,80 +1,32 @@
 -- A packet of minor 0, count 1 and part 0 that is reported as a message without added bytes is one that the writer writes.
 use Prim.Native.Nat.{ℕ, _+_, _-_, _^_, _≤_, _<_}
 use mathlib.Core.Path.{_≡_, refl, sym, ap, _∙_, subst}
-use mathlib.Core.Bool.{Bool, true, false, not, _||_, false≢true}
+use mathlib.Core.Bool.{Bool, true, false, _||_, false≢true}
 use mathlib.Core.List.{List, [], _∷_, _++_, append-assoc, append-nil}
 use mathlib.Core.Option.{Option, none, some}
 use native.Mathlib.Omega.{arith}
-use borrow.Author.Tests.{eqb-true, ltb-false, not-false}
+use borrow.Author.Tests.{ltb-false}
 use lib.ListN.{length, take, drop, length-append, length-drop}
 use lib.Seq.{drop-drop, take-all}
-use lib.Dec.{ltb, eqb}
+use lib.Dec.{ltb}
 use Rattle.format.specs.Format.{Value, Read, got, refused, pick, decode, encode, size, Bytes}
-use Rattle.format.proofs.Bools.{neither}
 use Rattle.format.proofs.Codec.{read-back, bytes-behind}
 use Rattle.format.proofs.Width.{size-is-length, rest-is-drop}
 use Rattle.format.specs.View.{View, view, placed}
 use Rattle.format.specs.Walk.{Step, stop, report}
 use Rattle.protocol.specs.Layer.{Layer, PINF, SDMX, FPTC, FSEL, FINF, CAEX, cookie, headerLength, hintLength, layerOf, header, layerHeader, citp, limit, cookieField, majorField, requestField, sizeField, countField, partField, layerField}
 use Rattle.protocol.specs.Kind.{Kind, layer, contentType, bodyOf, kindOf, isRead}
-use Rattle.protocol.specs.Step.{Content, message, unknown, fragment, refusal, Report, bodySeen, bodyAs, readBody, contentOf, readLayerHeader, readLayer, contentAt, headed, stepAt, looked}
+use Rattle.protocol.specs.Step.{Content, message, unknown, fragment, refusal, Report, bodySeen, bodyAs, readBody, contentOf, readLayerHeader, readLayer, contentAt, stepAt, looked}
 use Rattle.protocol.specs.Message.{Message, headerOf, headersOf, packetSize, packet, Sendable, raised}
 use Rattle.protocol.proofs.Headers.{header-length, length-header, length-layer}
 use Rattle.protocol.proofs.Lookup.{layer-known, Known, kind-known}
+use Rattle.protocol.proofs.Steps.{Starts, Reported, reported}
 use Rattle.stream.specs.Packets as sent
 use Rattle.stream.specs.Accepted.{Accepted}
 use Rattle.stream.specs.Claims as claims
 use Rattle.stream.proofs.Accepts.{accepts}
 use Rattle.stream.proofs.Bodies.{raised-none}
 use Rattle.stream.proofs.Walked.{expectedView, finds, looks}
-
--- ---- what a step that reports has found
-
-pub data Reads (at : ℕ) (rest : List ℕ) : Step (Report View) → Type 0 where
-  halts : {n : ℕ} → Reads at rest (stop n at)
-  tells : (h : Value header) (t : List ℕ) → decode header rest ≡ got h t → eqb (cookieField h) citp ≡ true → eqb (majorField h) 1 ≡ true → sizeField h ≤ limit
-      → Reads at rest (report (record { offset = at; size = sizeField h; request = requestField h; content = contentAt at h (take (sizeField h) rest) }) (at + sizeField h))
-
-reads-pick : {at : ℕ} {rest : List ℕ} (n : ℕ) (b : Bool) {y : Step (Report View)} → (b ≡ false → Reads at rest y) → Reads at rest (pick b (stop n at) y)
-reads-pick n true k = halts
-reads-pick n false k = k refl
-
-reads-headed : (at : ℕ) (rest : List ℕ) (x : Read (Value header)) → decode header rest ≡ x → Reads at rest (headed at rest x)
-reads-headed at rest (refused n) e = halts
-reads-headed at rest (got h t) e =
-    reads-pick 2 (not (eqb (cookieField h) citp)) λ c.
-    reads-pick 3 (not (eqb (majorField h) 1)) λ m.
-    reads-pick 4 (ltb (sizeField h) 20 || ltb limit (sizeField h)) λ z.
-    reads-pick 5 (ltb (length rest) (sizeField h)) λ l.
-    tells h t e (not-false (eqb (cookieField h) citp) c) (not-false (eqb (majorField h) 1) m)
-    (ltb-false limit (sizeField h) (neither (ltb (sizeField h) 20) (ltb limit (sizeField h)) z .1))
-
-reads-step : (s : List ℕ) (at : ℕ) → Reads at (drop at s) (stepAt s at)
-unfolding stepAt
-reads-step s at =
-    reads-pick 0 (eqb (length (drop at s)) 0) λ _. reads-pick 1 (ltb (length (drop at s)) 20) λ _. reads-headed at (drop at s) (decode header (drop at s)) refl
-
-pub record Headed (at : ℕ) (rest : List ℕ) (r : Report View) (k : ℕ) : Type 0 where
-  pub base : Value header
-  pub behind : List ℕ
-  pub reads-base : decode header rest ≡ got base behind
-  pub cookie-is : cookieField base ≡ citp
-  pub major-is : majorField base ≡ 1
-  pub within : sizeField base ≤ limit
-  pub next-is : at + sizeField base ≡ k
-  pub holds : contentAt at base (take (sizeField base) rest) ≡ r .content
-
-headed-of : {at k : ℕ} {rest : List ℕ} {r : Report View} → Reads at rest (report r k) → Headed at rest r k
-headed-of (tells h t e c m z) = record {
-  base = h;
-  behind = t;
-  reads-base = e;
-  cookie-is = eqb-true (cookieField h) citp c;
-  major-is = eqb-true (majorField h) 1 m;
-  within = z;
-  next-is = refl;
-  holds = refl;
-}
 
 -- ---- what a message's report has found
 
@@ -255,17 +207,15 @@ reported-again s r m ok is-packet is-read within st =
 
 pub writes-packet : claims.WritesPacket
 writes-packet s h rest r k start hint v hs e mn ct pt st con =
-    let f : Headed 0 s r (length s) = headed-of (rw st at (reads-step s 0)) in
+    let f : Reported 0 s r (length s) = reported s 0 st in
     let same-base : f .base ≡ h = ap (valueOr (f .base)) (sym (f .reads-base) ∙ e) in
-    let cookie-is : cookieField h ≡ citp = rw same-base at (f .cookie-is) in
-    let major-is : majorField h ≡ 1 = rw same-base at (f .major-is) in
-    let next-is : 0 + sizeField h ≡ length s = rw same-base at (f .next-is) in
+    let base : Starts h (length s) = rw same-base at (f .starts-with) in
+    let next-is : length s ≡ 0 + sizeField h = rw same-base at (f .next-is) in
     let size-is : sizeField h ≡ length s = omega arith in
-    let within-base : sizeField h ≤ limit = rw same-base at (f .within) in
-    let within : length s ≤ limit = rw size-is at within-base in
-    let holds : contentAt 0 h (take (sizeField h) s) ≡ r .content = rw same-base at (f .holds) in
+    let within : length s ≤ limit = rw size-is at (base .most) in
+    let holds : r .content ≡ contentAt 0 h (take (sizeField h) s) = rw same-base at (f .holds) in
     let whole : take (sizeField h) s ≡ s = ap (λ (n : ℕ). take n s) size-is ∙ take-all (length s) s (omega arith) in
-    let added : addedIn (contentAt 0 h s) ≡ some 0 = ap (λ (x : List ℕ). addedIn (contentAt 0 h x)) (sym whole) ∙ ap addedIn (holds ∙ con) in
+    let added : addedIn (contentAt 0 h s) ≡ some 0 = ap (λ (x : List ℕ). addedIn (contentAt 0 h x)) (sym whole) ∙ ap addedIn (sym holds ∙ con) in
     let t = told-content 0 h s added in
-    let b = rebuilt s h rest t hs e cookie-is major-is mn size-is ct pt within in
+    let b = rebuilt s h rest t hs e (base .cookie-is) (base .major-is) mn size-is ct pt within in
     reported-again s r (messageOf h t) (b .0) (b .1) (t .is-read) within st
