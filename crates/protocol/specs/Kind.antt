@@ -21,9 +21,17 @@ abbrev pub fixtureDataFormat : Format
 fixtureDataFormat =
     number 1 & number 1 & number 2 & ucs2 & number 2 & ucs2 & ucs2 & number 4 & number 4 & number 4 & number 4 & number 4 & number 4
 
--- fixture_identifier, manufacturer_name, fixture_name, mode_name, channel_count, is_dimmer, identifiers, data
+-- fixture_identifier, manufacturer_name, fixture_name, mode_name, channel_count, and what stands from is_dimmer on
+abbrev fixtureWith : Format → Format
+fixtureWith f = number 4 & ucs2 & ucs2 & ucs2 & number 2 & f
+
+-- a fixture up to its identifiers: is_dimmer
+abbrev pub fixtureHead : Format
+fixtureHead = fixtureWith (number 1)
+
+-- a whole one: is_dimmer, identifiers, data
 abbrev pub fixtureFormat : Format
-fixtureFormat = number 4 & ucs2 & ucs2 & ucs2 & number 2 & number 1 & list 1 identifierFormat & fixtureDataFormat
+fixtureFormat = fixtureWith (number 1 & list 1 identifierFormat & fixtureDataFormat)
 
 -- universe_index, channel, channel_level
 abbrev pub channelLevelFormat : Format

@@ -13,11 +13,11 @@ use Rattle.format.proofs.Faults.{valid-no-zero, valid-not-long, valid-fits}
 use Rattle.format.proofs.Lists.{all-append, all-of-map}
 use Rattle.format.proofs.Width.{size-is-length}
 use Rattle.protocol.specs.Layer.{headerLength, limit}
-use Rattle.protocol.specs.Kind.{Kind, index, layer, bodyOf, sameKind, identifierFormat, fixtureDataFormat, fixtureFormat, laserPointFormat}
+use Rattle.protocol.specs.Kind.{Kind, index, layer, bodyOf, sameKind, identifierFormat, fixtureDataFormat, fixtureHead, fixtureFormat, laserPointFormat}
 use Rattle.protocol.specs.Kind.{FixtureList, LaserFeedList, LaserFeedFrame}
 use Rattle.protocol.specs.Message.{Message, headersOf, packetSize, Sendable}
 use Rattle.protocol.proofs.Headers.{length-headers}
-use Rattle.writing.specs.Call.{Layout, plain, counted, layoutFits, layoutZero, layoutLong, fixtureHead, Part, body, feedName, laserPoint, identifier, fixtureData}
+use Rattle.writing.specs.Call.{Layout, plain, counted, layoutFits, layoutZero, layoutLong, Part, body, feedName, laserPoint, identifier, fixtureData}
 use Rattle.writing.specs.Call.{opens, give, closes, Typed, partBytes, headOf, identifiersOf, dataOf, fixtureParts, partsOf, callsOf}
 use Rattle.writing.specs.Writer.{Turn, isFlat, idle, bodyDue, itemsDue, partsDue, partInTurn, nextPart, behindHeaders, Writer, Outcome, Progress, step, run}
 use Rattle.writing.proofs.Taken.{Taken, is-taken}

@@ -10,9 +10,9 @@ use Rattle.format.proofs.Codec.{encode-pair, encode-list}
 use Rattle.format.specs.Fault.{holdsZero, tooLong}
 use Rattle.format.proofs.Faults.{passed-is-valid, any-never}
 use Rattle.format.proofs.Lists.{concatMap-append, concatMap-map, concatMap-parts, all-front, all-behind, all-map}
-use Rattle.protocol.specs.Kind.{Kind, bodyOf, identifierFormat, fixtureDataFormat, fixtureFormat, laserPointFormat}
+use Rattle.protocol.specs.Kind.{Kind, bodyOf, identifierFormat, fixtureDataFormat, fixtureHead, fixtureFormat, laserPointFormat}
 use Rattle.protocol.specs.Kind.{LaserFeedFrame}
-use Rattle.writing.specs.Call.{fixtureHead, Part, body, feedName, laserFeedFrame, laserPoint, fixture, identifier, fixtureData}
+use Rattle.writing.specs.Call.{Part, body, feedName, laserFeedFrame, laserPoint, fixture, identifier, fixtureData}
 use Rattle.writing.specs.Call.{layoutOf, layoutFits, layoutZero, layoutLong, partBytes, headOf, identifiersOf, dataOf, fixtureParts, partsOf}
 use Rattle.writing.proofs.Form.{Form, flat, fixtures, names, points, form}
 

@@ -9,11 +9,11 @@ use lib.ListN.{length, length-append}
 use lib.Dec.{ltb}
 use Rattle.format.specs.Format.{Value, concatMap}
 use Rattle.format.proofs.Lists.{concatMap-append, map-append}
-use Rattle.protocol.specs.Kind.{Kind, bodyOf, sameKind, identifierFormat, fixtureDataFormat, fixtureFormat, laserPointFormat}
+use Rattle.protocol.specs.Kind.{Kind, bodyOf, sameKind, identifierFormat, fixtureDataFormat, fixtureHead, fixtureFormat, laserPointFormat}
 use Rattle.protocol.specs.Kind.{FixtureList, LaserFeedList, LaserFeedFrame}
 use Rattle.protocol.specs.Message.{Message}
 use Rattle.protocol.proofs.Every.{same-kind}
-use Rattle.writing.specs.Call.{fixtureHead, Part, body, laserFeedList, feedName, laserFeedFrame, laserPoint, fixtureList, fixture, identifier, fixtureData}
+use Rattle.writing.specs.Call.{Part, body, laserFeedList, feedName, laserFeedFrame, laserPoint, fixtureList, fixture, identifier, fixtureData}
 use Rattle.writing.specs.Call.{Call, opens, give, fixtureParts, partsOf, callsOf}
 use Rattle.writing.specs.Writer.{Turn, idle, bodyDue, itemsDue, partsDue, isIdle, isBody, isItem, isIdentifier, isData, isClose, isFlat, partInTurn, left, identifiersLeft, nextPart}
 use Rattle.format.proofs.Bools.{both}

@@ -6,13 +6,9 @@ use lib.ListN.{length}
 use lib.Dec.{leb}
 use Rattle.format.specs.Format.{Format, number, code, ucs2, _&_, Value, encode, concatMap}
 use Rattle.format.specs.Fault.{Fits, holdsZero, tooLong}
-use Rattle.protocol.specs.Kind.{Kind, bodyOf, identifierFormat, fixtureDataFormat, fixtureFormat, laserPointFormat}
+use Rattle.protocol.specs.Kind.{Kind, bodyOf, identifierFormat, fixtureHead, fixtureDataFormat, fixtureFormat, laserPointFormat}
 use Rattle.protocol.specs.Kind.{EnterShow, FixtureList, FixtureRemove, LaserFeedControl, Capa, UNam, ChBk, ChLs, Sxus, Ptch, UPtc, SPtc, Sele, DeSe, SFra, Fram, PNam, PLoc, LaserFeedList, LaserFeedFrame}
 use Rattle.protocol.specs.Message.{Message, headersOf}
-
--- a fixture up to its identifiers: fixture_identifier, manufacturer_name, fixture_name, mode_name, channel_count, is_dimmer
-abbrev pub fixtureHead : Format
-fixtureHead = number 4 & ucs2 & ucs2 & ucs2 & number 2 & number 1
 
 -- what one call gives between open and close: a flat body at once; or a list's head with its count, then its items one by one,
 -- a fixture as its head with the count of its identifiers, the identifiers one by one, its data
