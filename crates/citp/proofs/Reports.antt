@@ -1,6 +1,6 @@
 -- What the answers of the parts of a packet tell of it: the layer, the layer header, the body.
 use Prim.Native.Nat.{ℕ, _+_, _-_, _≤_, _<_}
-use mathlib.Core.Path.{_≡_, refl, sym, ap, _∙_}
+use mathlib.Core.Path.{_≡_, refl, ap, _∙_}
 use mathlib.Core.Bool.{Bool, true, false}
 use mathlib.Core.List.{List}
 use mathlib.Core.Option.{some}
@@ -9,15 +9,13 @@ use native.Mathlib.Omega.{arith}
 use borrow.Author.Tests.{lt-ltb, le-ltb}
 use lib.ListN.{length, take, drop, length-drop}
 use lib.Seq.{take-all}
-use lib.Dec.{eqb}
-use Rattle.format.specs.Format.{Format, number, Value, Read, got, refused, pick, decodeNumber, decode, size}
+use Rattle.format.specs.Format.{number, Value, Read, got, refused, decodeNumber, decode, size}
 use Rattle.format.specs.View.{View, Seen, seen, missed, view, placed, place}
 use Rattle.format.proofs.Views.{after, view-pair}
-use Rattle.protocol.specs.Layer.{Layer, PINF, SDMX, FPTC, FSEL, FINF, CAEX, cookie, headerLength, hintLength, hinted, layerOf, layerHeader}
+use Rattle.protocol.specs.Layer.{Layer, cookie, headerLength, hasHint, hintLength, hinted, layerHeader}
 use Rattle.protocol.specs.Kind.{Kind, bodyOf}
 use Rattle.protocol.specs.Step.{Content, message, unknown, refusal, Body, known, unread, refusedWith, contentOf, readBody, readLayerHeader, readLayer}
-use Rattle.protocol.proofs.Lookup.{layer-found}
-use Rattle.citp.specs.Says.{headerWith, contentIn}
+use Rattle.citp.specs.Says.{contentIn}
 use Rattle.citp.specs.declared.LayerHeader.{LayerHeader}
 
 -- ---- a body, by its layer
@@ -34,12 +32,12 @@ module _ (l : Layer) (start extent type hint : ℕ) {b : Body View} where
   told-refusal p = rw p
 
 -- where a layer has no hint, it makes no difference
-no-hint : (l : Layer) → eqb (hintLength l) 0 ≡ true → (start extent type hint : ℕ) (b : Body View) → contentOf l start extent type 0 b ≡ contentOf l start extent type hint b
+no-hint : (l : Layer) → hasHint l ≡ false → (start extent type hint : ℕ) (b : Body View) → contentOf l start extent type 0 b ≡ contentOf l start extent type hint b
 no-hint l e start extent type hint (known k v taken) = rw e
 no-hint l e start extent type hint unread = refl
 no-hint l e start extent type hint (refusedWith n) = refl
 
-pub without-hint : (l : Layer) → eqb (hintLength l) 0 ≡ true → (h : LayerHeader) (end : ℕ) (s : List ℕ)
+pub without-hint : (l : Layer) → hasHint l ≡ false → (h : LayerHeader) (end : ℕ) (s : List ℕ)
     → contentOf l (end - length s) (length s) (h .«content_type») 0 (readBody l (h .«content_type») s) ≡ contentIn l h end s
 without-hint l e h end s = no-hint l e (end - length s) (length s) (h .«content_type») (h .«content_hint») (readBody l (h .«content_type») s)
 
@@ -49,34 +47,24 @@ no-bytes : (s : List ℕ) (at : ℕ) → view (number 0) s at ≡ seen 0 at
 unfolding view placed place size decode decodeNumber
 no-bytes s at = rw (add-zero at)
 
-module _ (s : List ℕ) (b : Bool) where
-  pub header-short : {k : ℕ} → view (number 4) s 20 ≡ missed k → missed k ≡ view (headerWith b) s 20
+module _ (l : Layer) (s : List ℕ) where
+  pub header-short : {k : ℕ} → view (number 4) s 20 ≡ missed k → missed k ≡ view (layerHeader l) s 20
   unfolding after
-  header-short e = rw (view-pair (number 4) (number (pick b 4 0)) s 20, e)
+  header-short e = rw (view-pair (number 4) (number (hintLength l)) s 20, e)
 
-  pub header-bare : {n e : ℕ} → b ≡ false → view (number 4) s 20 ≡ seen n e → seen (n, 0) e ≡ view (headerWith b) s 20
+  pub header-bare : {b : Bool} {n e : ℕ} → b ≡ hasHint l → b ≡ false → view (number 4) s 20 ≡ seen n e → seen (n, 0) e ≡ view (layerHeader l) s 20
   unfolding after
-  header-bare {n} {e} z p = rw (view-pair (number 4) (number (pick b 4 0)) s 20, p, z, no-bytes s e)
+  header-bare {e = e} h z p = rw (view-pair (number 4) (number (hintLength l)) s 20, p, ← h, z, no-bytes s e)
 
-  pub hint-short : {n e k : ℕ} → b ≡ true → view (number 4) s 20 ≡ seen n e → view (number 4) s e ≡ missed k → missed k ≡ view (headerWith b) s 20
+  pub hint-short : {b : Bool} {n e k : ℕ} → b ≡ hasHint l → b ≡ true → view (number 4) s 20 ≡ seen n e → view (number 4) s e ≡ missed k
+      → missed k ≡ view (layerHeader l) s 20
   unfolding after
-  hint-short z p q = rw (view-pair (number 4) (number (pick b 4 0)) s 20, p, z, q)
+  hint-short h z p q = rw (view-pair (number 4) (number (hintLength l)) s 20, p, ← h, z, q)
 
-  pub header-hinted : {n e h d : ℕ} → b ≡ true → view (number 4) s 20 ≡ seen n e → view (number 4) s e ≡ seen h d → seen (n, h) d ≡ view (headerWith b) s 20
+  pub header-hinted : {b : Bool} {n e i d : ℕ} → b ≡ hasHint l → b ≡ true → view (number 4) s 20 ≡ seen n e → view (number 4) s e ≡ seen i d
+      → seen (n, i) d ≡ view (layerHeader l) s 20
   unfolding after
-  header-hinted z p q = rw (view-pair (number 4) (number (pick b 4 0)) s 20, p, z, q)
-
--- of the layer whose headers have that length
-pub header-seen : (l : Layer) (s : List ℕ) {n : ℕ} {v : Seen (ℕ × ℕ)} → n ≡ headerLength l → view (headerWith (eqb n 28)) s 20 ≡ v → view (layerHeader l) s 20 ≡ v
-header-seen l s {n} {v} e q = by l (rw e at q)
-  where
-    by : (l : Layer) → view (headerWith (eqb (headerLength l) 28)) s 20 ≡ v → view (layerHeader l) s 20 ≡ v
-    by PINF q = q
-    by SDMX q = q
-    by FPTC q = q
-    by FSEL q = q
-    by FINF q = q
-    by CAEX q = q
+  header-hinted h z p q = rw (view-pair (number 4) (number (hintLength l)) s 20, p, ← h, z, q)
 
 -- ---- a packet of a known layer
 

@@ -1,10 +1,8 @@
 -- What the walk's answers say.
 use Prim.Native.Nat.{ℕ, _-_}
-use mathlib.Core.Bool.{Bool}
 use mathlib.Core.List.{List}
 use mathlib.Core.Option.{Option, none, some}
 use lib.ListN.{length, take, drop}
-use Rattle.format.specs.Format.{Format, number, _&_, pick}
 use Rattle.format.specs.View.{View, Seen, seen, missed}
 use Rattle.format.specs.Walk.{stop, report}
 use Rattle.format.specs.Walk as walk
@@ -27,10 +25,6 @@ use Rattle.citp.specs.declared.Step.{Step}
 use Rattle.citp.specs.declared.Message.the-variants as message
 use Rattle.citp.specs.declared.Report.the-variants as content
 use Rattle.citp.specs.declared.Step.the-variants as step
-
--- a layer header with or without a content hint
-abbrev pub headerWith : Bool → Format
-headerWith hinted = number 4 & number (pick hinted 4 0)
 
 abbrev pub layerHeaderSays : LayerHeaderRead → Seen (ℕ × ℕ)
 layerHeaderSays (layer-header.Read h c) = seen (h .«content_type», h .«content_hint») (c .at)

@@ -4,13 +4,13 @@ ghost use Prim.Native.Nat.{_-_, _+_, _≤_};
 ghost use lib.ListN.{length, take, drop};
 ghost use Rattle.protocol.specs.Layer as layer;
 ghost use Rattle.protocol.specs.Kind.{layer as layerOfKind};
-ghost use Rattle.protocol.specs.Layer.{cookie, headerLength, layerOf};
+ghost use Rattle.protocol.specs.Layer.{cookie, headerLength, layerHeader, layerOf};
 ghost use Rattle.format.specs.View.{view};
 ghost use mathlib.Core.Option.{some};
 ghost use Rattle.protocol.specs.Step.{readBody, contentOf, readLayer, contentAt, startNumber, stepAt};
 ghost use Rattle.header.specs.Says.{headerValue};
 ghost use Rattle.layers.specs.Says.{layerIs};
-ghost use Rattle.citp.specs.Says.{layerHeaderSays, headerWith, contentIn, messageKind, reportSays, packetSays, stepSays, bodyPlace, bodyOfReport};
+ghost use Rattle.citp.specs.Says.{layerHeaderSays, contentIn, messageKind, reportSays, packetSays, stepSays, bodyPlace, bodyOfReport};
 use caex::Caex;
 use finf::Finf;
 use fptc::Fptc;
@@ -187,14 +187,14 @@ enum LayerHeaderRead {
     Short,
 }
 
-fn layer_header(hinted: bool, packet: &[u8]) -> LayerHeaderRead
-    ensures { λ r. ⌜ layerHeaderSays r ≡ view (headerWith hinted) (now (packet .entry)) 20 ⌝ }
+fn layer_header(layer: Layer, packet: &[u8]) -> LayerHeaderRead
+    ensures { λ r. ⌜ layerHeaderSays r ≡ view (layerHeader (layerIs layer)) (now (packet .entry)) 20 ⌝ }
 {
     let c = wire::Cursor { at: Header::LENGTH };
     let U32Read::Read(content_type, c) = c.u32(packet) else {
         return LayerHeaderRead::Short;
     };
-    if !hinted {
+    if !layer.has_hint() {
         return LayerHeaderRead::Read(
             LayerHeader {
                 content_type,
@@ -239,8 +239,7 @@ fn layer_report(layer: Layer, end: usize, packet: &[u8]) -> Report
     if packet.len() < length {
         return Report::Refused(6);
     }
-    let hinted = length == Fptc::HEADER_LENGTH;
-    let LayerHeaderRead::Read(h, _) = layer_header(hinted, packet) else {
+    let LayerHeaderRead::Read(h, _) = layer_header(layer, packet) else {
         return Report::Refused(6);
     };
     let body = &packet[length..];

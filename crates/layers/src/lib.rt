@@ -1,11 +1,12 @@
 // The six layers: a layer by its cookie, and each layer's figures, which its own crate has.
 ghost use mathlib.Core.Path.{_≡_};
-ghost use Rattle.protocol.specs.Layer.{cookie, headerLength, layerOf};
+ghost use Rattle.protocol.specs.Layer.{cookie, headerLength, hasHint, layerOf};
 ghost use Rattle.layers.specs.Says.{layerIs, layerSays};
 use caex::Caex;
 use finf::Finf;
 use fptc::Fptc;
 use fsel::Fsel;
+use header::Header;
 use pinf::Pinf;
 use sdmx::Sdmx;
 
@@ -74,5 +75,12 @@ impl Layer {
             Layer::Finf => Finf::HEADER_LENGTH,
             Layer::Caex => Caex::HEADER_LENGTH,
         }
+    }
+
+    // A content hint stands behind base header and content type.
+    pub fn has_hint(self) -> bool
+        ensures { λ r. ⌜ r ≡ hasHint (layerIs self) ⌝ }
+    {
+        Header::LENGTH + 4 < self.header_length()
     }
 }

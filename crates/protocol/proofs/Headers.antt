@@ -5,12 +5,12 @@ use mathlib.Core.List.{List, _++_, append-assoc}
 use native.Mathlib.Omega.{arith}
 use lib.ListN.{length, drop, length-append}
 use lib.Seq.{sets, drop-append-seam}
-use lib.Dec.{ltb, eqb}
+use lib.Dec.{ltb}
 use borrow.Author.Tests.{ltb-true}
 use Rattle.format.specs.Format.{number, Value, got, pick, decode, encode, encodeNumber, Valid}
 use Rattle.format.proofs.Codec.{round-trip}
 use Rattle.format.proofs.Width.{length-is-width}
-use Rattle.protocol.specs.Layer.{Layer, PINF, SDMX, FPTC, FSEL, FINF, CAEX, cookie, headerLength, hintLength, hinted, header, layerHeader, citp}
+use Rattle.protocol.specs.Layer.{Layer, PINF, SDMX, FPTC, FSEL, FINF, CAEX, cookie, headerLength, hasHint, hintLength, hinted, header, layerHeader, citp}
 use Rattle.protocol.specs.Kind.{Kind, layer, contentType}
 use Rattle.protocol.specs.Message.{headerOf, headersOf}
 use Rattle.protocol.proofs.Every.{every, every-kind}
@@ -84,7 +84,7 @@ header-valid l size request hs hr =
 
 -- the hint as it is read: what was given in FPTC, 0 elsewhere
 abbrev pub hintRead : Layer → ℕ → ℕ
-hintRead l hint = pick (eqb (hintLength l) 0) 0 hint
+hintRead l hint = pick (hasHint l) hint 0
 
 pub hint-sent : (l : Layer) (type hint : ℕ) → encode (layerHeader l) (type, hint) ≡ encode (layerHeader l) (type, hintRead l hint)
 unfolding encode encodeNumber

@@ -1,9 +1,9 @@
 -- The six layers, each with its cookie and the length of its headers, and the headers as formats.
-use Prim.Native.Nat.{ℕ, _+_, _-_, _*_}
+use Prim.Native.Nat.{ℕ, _+_, _*_}
 use mathlib.Core.Bool.{Bool}
 use mathlib.Core.List.{List, [], _∷_}
 use mathlib.Core.Option.{Option, none, some}
-use lib.Dec.{eqb}
+use lib.Dec.{eqb, ltb}
 use Rattle.format.specs.Format.{Format, number, _&_, Value, pick}
 
 pub data Layer : Type 0 where
@@ -32,13 +32,17 @@ cookie l = layerFigures l .cookie
 abbrev pub headerLength : Layer → ℕ
 headerLength l = layerFigures l .headerLength
 
--- the bytes of the content hint: those of the headers behind base header and content type
+-- whether a layer has a content hint: its headers are longer than base header and content type
+abbrev pub hasHint : Layer → Bool
+hasHint l = ltb 24 (headerLength l)
+
+-- its bytes
 abbrev pub hintLength : Layer → ℕ
-hintLength l = headerLength l - 24
+hintLength l = pick (hasHint l) 4 0
 
 -- the content hint of a layer that has one
 abbrev pub hinted : Layer → ℕ → Option ℕ
-hinted l hint = pick (eqb (hintLength l) 0) none (some hint)
+hinted l hint = pick (hasHint l) (some hint) none
 
 -- the order of lookup
 abbrev pub layers : List Layer

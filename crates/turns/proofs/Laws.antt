@@ -1,23 +1,23 @@
 -- Laws of the figures and of the headers with which a packet is opened.
-use Prim.Native.Nat.{ℕ, _+_, _≤_, _<_}
+use Prim.Native.Nat.{ℕ, _+_, _≤_}
 use mathlib.Core.Path.{_≡_, refl, sym, ap, _∙_}
-use mathlib.Core.Bool.{Bool, false}
-use mathlib.Core.List.{List, []}
+use mathlib.Core.Bool.{Bool, true, false}
+use mathlib.Core.List.{List}
 use native.Mathlib.Omega.{arith}
-use borrow.Author.Tests.{le-ltb, lt-ltb}
+use borrow.Author.Tests.{le-ltb}
 use lib.ListN.{length, length-append}
 use lib.Dec.{ltb}
-use Rattle.format.specs.Format.{Format, Value, number, _&_, encode, encodeNumber, size, pick}
+use Rattle.format.specs.Format.{Format, Value, number, _&_, encode, encodeNumber, size}
 use Rattle.format.specs.Fault.{weighed, holdsZero, tooLong}
-use Rattle.protocol.specs.Layer.{Layer, PINF, SDMX, FPTC, FSEL, FINF, CAEX, cookie, headerLength, hintLength, header, layerHeader, citp}
+use Rattle.protocol.specs.Layer.{Layer, PINF, SDMX, FPTC, FSEL, FINF, CAEX, cookie, headerLength, hasHint, hintLength, header, layerHeader, citp}
 use Rattle.protocol.specs.Message.{headerOf}
 use Rattle.put.specs.Put.{Writes, Weighs, limit, putAt, putJudged}
 use Rattle.put.specs.declared.Put.{Put}
 use Rattle.put.proofs.Writing.{put-nil, put-pair, put-as}
 use Rattle.put.proofs.Weighing.{passed}
-use Rattle.put.proofs.Bodies.{Sized, sized-whole, Weighed, weight-head, refused, taken, answer-moved, answer-number}
+use Rattle.put.proofs.Bodies.{sized-whole, Weighed, weight-head, refused, taken, answer-moved, answer-number}
 use Rattle.layers.specs.Says.{layerIs}
-use Rattle.turns.specs.Says.{kindIs, figuresSay, figuresOf, hintWidth}
+use Rattle.turns.specs.Says.{kindIs, figuresSay, figuresOf}
 use Rattle.turns.specs.declared.Kind.{Kind}
 use Rattle.turns.specs.declared.Figures.{Figures}
 use Rattle.layers.specs.declared.Layer as declared
@@ -39,27 +39,17 @@ module _ {i j t u : ℕ} {l m : Layer} (e : _≡_ {A = ℕ × (Layer × ℕ)} (i
 
 -- ---- the content hint
 
-pub hint-written : {n h p r : ℕ} {o o′ : List ℕ} → 24 < n → Writes (number 4) h p o r o′ → Writes (number (hintWidth n)) h p o r o′
-hint-written {n} m a = rw (lt-ltb 24 n m) a
+module _ (l : Layer) {b : Bool} (e : b ≡ hasHint l) where
+  pub hint-written : {h p r : ℕ} {o o′ : List ℕ} → b ≡ true → Writes (number 4) h p o r o′ → Writes (number (hintLength l)) h p o r o′
+  hint-written t a = rw (← e, t) a
 
-pub no-hint : (n h p : ℕ) (o : List ℕ) → n ≤ 24 → Writes (number (hintWidth n)) h p o p o
-unfolding encode encodeNumber
-no-hint n h p o m = rw (le-ltb 24 n m) (record { writes = put-nil p o })
+  pub no-hint : (h p : ℕ) (o : List ℕ) → b ≡ false → Writes (number (hintLength l)) h p o p o
+  unfolding encode encodeNumber
+  no-hint h p o t = rw (← e, t) (record { writes = put-nil p o })
 
-hint-width : (l : Layer) → hintWidth (headerLength l) ≡ hintLength l
-hint-width PINF = refl
-hint-width SDMX = refl
-hint-width FPTC = refl
-hint-width FSEL = refl
-hint-width FINF = refl
-hint-width CAEX = refl
-
-pub layer-header-written : {i j t u n h p q r : ℕ} {l m : Layer} {o o₁ o₂ : List ℕ}
-    → _≡_ {A = ℕ × (Layer × ℕ)} (i, (l, t)) (j, (m, u)) → n ≡ headerLength l
-    → Writes (number 4) t p o q o₁ → Writes (number (hintWidth n)) h q o₁ r o₂ → Writes (layerHeader m) (u, h) p o r o₂
-layer-header-written {n = n} {l = l} {m = m} f e a b =
-    let w : hintWidth n ≡ hintLength m = ap hintWidth e ∙ hint-width l ∙ ap hintLength (same-layer f) in
-    put-pair (put-as a (same-type f)) (rw w at b)
+pub layer-header-written : {i j t u h p q r : ℕ} {l m : Layer} {o o₁ o₂ : List ℕ} → _≡_ {A = ℕ × (Layer × ℕ)} (i, (l, t)) (j, (m, u))
+    → Writes (number 4) t p o q o₁ → Writes (number (hintLength l)) h q o₁ r o₂ → Writes (layerHeader m) (u, h) p o r o₂
+layer-header-written f a b = put-pair (put-as a (same-type f)) (rw (same-layer f) at b)
 
 -- ---- the headers
 

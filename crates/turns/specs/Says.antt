@@ -1,7 +1,5 @@
 -- Which kind and turn of the definition those of the code are, and what a kind's figures say.
 use Prim.Native.Nat.{ℕ}
-use lib.Dec.{ltb}
-use Rattle.format.specs.Format.{pick}
 use Rattle.protocol.specs.Layer as layer
 use Rattle.protocol.specs.Kind as kind
 use Rattle.writing.specs.Writer as writing
@@ -40,10 +38,6 @@ figuresOf k = (kind.index k, (kind.layer k, kind.contentType k))
 
 abbrev pub figuresSay : Figures → ℕ × (layer.Layer × ℕ)
 figuresSay r = (r .index, (layerIs (r .layer), r .«content_type»))
-
--- the bytes of the content hint in headers of a length: none in those of base header and content type alone
-abbrev pub hintWidth : ℕ → ℕ
-hintWidth length = pick (ltb 24 length) 4 0
 
 abbrev pub turnIs : Turn → writing.Turn
 turnIs turn-case.Idle = writing.idle

@@ -2,14 +2,15 @@
 ghost use mathlib.Core.Path.{_≡_};
 ghost use mathlib.Core.Bool.{false, _&&_};
 ghost use Prim.Native.Nat.{_-_};
-ghost use Rattle.protocol.specs.Layer.{cookie, headerLength, header, layerHeader};
+ghost use Rattle.protocol.specs.Layer.{cookie, headerLength, hintLength, header, layerHeader};
 ghost use Rattle.protocol.specs.Kind.{layer, contentType, sameKind};
 ghost use Rattle.protocol.specs.Kind as kinds;
 ghost use Rattle.protocol.specs.Message.{headerOf};
 ghost use Rattle.format.specs.Format.{number, _&_};
 ghost use Rattle.put.specs.Put.{Writes, putJudged};
+ghost use Rattle.layers.specs.Says.{layerIs};
 ghost use Rattle.writing.specs.Writer.{isIdle, isBody, isItem, isIdentifier, isData, isClose, behindHeaders, left, identifiersLeft, itemsDue, partsDue};
-ghost use Rattle.turns.specs.Says.{kindIs, figuresSay, figuresOf, hintWidth, turnIs};
+ghost use Rattle.turns.specs.Says.{kindIs, figuresSay, figuresOf, turnIs};
 use caex::Caex;
 use caex::EnterShow;
 use caex::FixtureList;
@@ -274,11 +275,11 @@ pub fn both(a: bool, b: bool) -> bool
 
 // ---- the headers
 
-// The content hint, where the headers have more than base header and content type.
-fn put_hint(out: &mut [u8], at: usize, header_length: usize, content_hint: u32) -> usize
-    ensures { λ r. ⌜ Writes (number (hintWidth «header_length»)) «content_hint» at (now (out .entry)) r (now (out .exit)) ⌝ }
+// The content hint of a layer that has one.
+fn put_hint(out: &mut [u8], at: usize, layer: Layer, content_hint: u32) -> usize
+    ensures { λ r. ⌜ Writes (number (hintLength (layerIs layer))) «content_hint» at (now (out .entry)) r (now (out .exit)) ⌝ }
 {
-    if Header::LENGTH + 4 < header_length {
+    if layer.has_hint() {
         return put_u32(out, at, content_hint);
     }
     at
@@ -290,7 +291,7 @@ fn put_layer_header(out: &mut [u8], at: usize, kind: Kind, content_hint: u32) ->
     let figures = kind.figures();
     let layer = figures.layer;
     let at = put_u32(out, at, figures.content_type);
-    put_hint(out, at, layer.header_length(), content_hint)
+    put_hint(out, at, layer, content_hint)
 }
 
 // Base header and layer header at the output's first byte; the size field is 0.
