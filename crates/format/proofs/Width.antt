@@ -104,6 +104,26 @@ decode-behind (f & g) s = gives-bind (decode-behind f s) λ a t h. gives-bind (d
 pub rest-is-drop : (f : Format) (s : List ℕ) {v : Value f} {rest : List ℕ} → decode f s ≡ got v rest → rest ≡ drop (length (encode f v)) s
 rest-is-drop f s {v} e = rw (← size-is-length f v) (given (decode-behind f s) e .rest)
 
+-- ---- the smallest value
+
+-- numbers 0, strings and lists empty
+abbrev pub bare : (f : Format) → Value f
+bare (number w) = 0
+bare (code n r) = 0
+bare cstring = []
+bare ucs2 = []
+bare (list w f) = []
+bare (f & g) = (bare f, bare g)
+
+pub bare-smallest : (f : Format) (v : Value f) → size f (bare f) ≤ size f v
+unfolding size total
+bare-smallest (number w) v = omega arith
+bare-smallest (code n r) v = omega arith
+bare-smallest cstring v = omega arith
+bare-smallest ucs2 v = omega arith
+bare-smallest (list w f) v = omega arith
+bare-smallest (f & g) v = omega (arith, bare-smallest f (v .0), bare-smallest g (v .1))
+
 -- ---- formats of one width
 
 abbrev pub Fixed : Format → Type 0

@@ -6,3 +6,4 @@ pub mod Found
 pub mod Rows
 pub mod Arms
 pub mod Bodies
+pub mod Fixtures
