@@ -4,7 +4,7 @@ use mathlib.Core.Path.{_≡_, refl}
 use Rattle.format.specs.View.{Seen, seen, missed, Next, item, done, broken}
 use Rattle.format.specs.Copy.{Answer, took, denied}
 use Rattle.wire.specs.Says.{u8Says, u16Says, u32Says, cstringSays, ucs2Says, blockSays, skipSays, u16ListSays, u32ListSays, itemsSays}
-use Rattle.wire.specs.Says.{u16NextSays, u32NextSays, itemsNextSays, copiedSays}
+use Rattle.wire.specs.Says.{u16NextSays, u32NextSays, copiedSays}
 use Rattle.wire.specs.declared.Cursor.{Cursor}
 use Rattle.wire.specs.declared.CString.{CString}
 use Rattle.wire.specs.declared.Ucs2.{Ucs2}
@@ -24,7 +24,6 @@ use Rattle.wire.specs.declared.U32ListRead.{U32ListRead}
 use Rattle.wire.specs.declared.ItemsRead.{ItemsRead}
 use Rattle.wire.specs.declared.U16Next.{U16Next}
 use Rattle.wire.specs.declared.U32Next.{U32Next}
-use Rattle.wire.specs.declared.ItemsNext.{ItemsNext}
 use Rattle.wire.specs.declared.Copied.{Copied}
 use Rattle.wire.specs.declared.U8Read.the-variants as u8
 use Rattle.wire.specs.declared.U16Read.the-variants as u16
@@ -38,7 +37,6 @@ use Rattle.wire.specs.declared.U32ListRead.the-variants as u32List
 use Rattle.wire.specs.declared.ItemsRead.the-variants as items
 use Rattle.wire.specs.declared.U16Next.the-variants as u16Next
 use Rattle.wire.specs.declared.U32Next.the-variants as u32Next
-use Rattle.wire.specs.declared.ItemsNext.the-variants as itemsNext
 use Rattle.wire.specs.declared.Copied.the-variants as copied
 
 -- the answer about what was read, by its cases: what is seen with the cursor behind it, the number of a refusal
@@ -75,46 +73,43 @@ itemsOf x = record { at = x .0; left = x .1 }
 
 -- ---- fields
 
-pub u8-kept : (r : U8Read) → r ≡ readBy u8.Read (λ k. u8.Short) same (u8Says r)
-u8-kept = elim [ u8.Read x c ↦ refl | u8.Short ↦ refl ]
+pub u8-exact : (r : U8Read) → r ≡ readBy u8.Read (λ k. u8.Short) same (u8Says r)
+u8-exact = elim [ u8.Read x c ↦ refl | u8.Short ↦ refl ]
 
-pub u16-kept : (r : U16Read) → r ≡ readBy u16.Read (λ k. u16.Short) same (u16Says r)
-u16-kept = elim [ u16.Read x c ↦ refl | u16.Short ↦ refl ]
+pub u16-exact : (r : U16Read) → r ≡ readBy u16.Read (λ k. u16.Short) same (u16Says r)
+u16-exact = elim [ u16.Read x c ↦ refl | u16.Short ↦ refl ]
 
-pub u32-kept : (r : U32Read) → r ≡ readBy u32.Read (λ k. u32.Short) same (u32Says r)
-u32-kept = elim [ u32.Read x c ↦ refl | u32.Short ↦ refl ]
+pub u32-exact : (r : U32Read) → r ≡ readBy u32.Read (λ k. u32.Short) same (u32Says r)
+u32-exact = elim [ u32.Read x c ↦ refl | u32.Short ↦ refl ]
 
-pub cstring-kept : (r : CStringRead) → r ≡ readBy cstring.Read (λ k. cstring.Unended) cstringOf (cstringSays r)
-cstring-kept = elim [ cstring.Read x c ↦ refl | cstring.Unended ↦ refl ]
+pub cstring-exact : (r : CStringRead) → r ≡ readBy cstring.Read (λ k. cstring.Unended) cstringOf (cstringSays r)
+cstring-exact = elim [ cstring.Read x c ↦ refl | cstring.Unended ↦ refl ]
 
-pub ucs2-kept : (r : Ucs2Read) → r ≡ readBy ucs2.Read (λ k. ucs2.Unended) ucs2Of (ucs2Says r)
-ucs2-kept = elim [ ucs2.Read x c ↦ refl | ucs2.Unended ↦ refl ]
+pub ucs2-exact : (r : Ucs2Read) → r ≡ readBy ucs2.Read (λ k. ucs2.Unended) ucs2Of (ucs2Says r)
+ucs2-exact = elim [ ucs2.Read x c ↦ refl | ucs2.Unended ↦ refl ]
 
-pub block-kept : (r : BlockRead) → r ≡ readBy block.Read (λ k. block.Short) blockOf (blockSays r)
-block-kept = elim [ block.Read x c ↦ refl | block.Short ↦ refl ]
+pub block-exact : (r : BlockRead) → r ≡ readBy block.Read (λ k. block.Short) blockOf (blockSays r)
+block-exact = elim [ block.Read x c ↦ refl | block.Short ↦ refl ]
 
-pub skip-kept : (r : SkipRead) → r ≡ readBy (λ u c. skip.Past c) (λ k. skip.Short) (λ u. u) (skipSays r)
-skip-kept = elim [ skip.Past c ↦ refl | skip.Short ↦ refl ]
+pub skip-exact : (r : SkipRead) → r ≡ readBy (λ u c. skip.Past c) (λ k. skip.Short) (λ u. u) (skipSays r)
+skip-exact = elim [ skip.Past c ↦ refl | skip.Short ↦ refl ]
 
-pub u16List-kept : (r : U16ListRead) → r ≡ readBy u16List.Read (λ k. u16List.Short) u16ListOf (u16ListSays r)
-u16List-kept = elim [ u16List.Read x c ↦ refl | u16List.Short ↦ refl ]
+pub u16List-exact : (r : U16ListRead) → r ≡ readBy u16List.Read (λ k. u16List.Short) u16ListOf (u16ListSays r)
+u16List-exact = elim [ u16List.Read x c ↦ refl | u16List.Short ↦ refl ]
 
-pub u32List-kept : (r : U32ListRead) → r ≡ readBy u32List.Read (λ k. u32List.Short) u32ListOf (u32ListSays r)
-u32List-kept = elim [ u32List.Read x c ↦ refl | u32List.Short ↦ refl ]
+pub u32List-exact : (r : U32ListRead) → r ≡ readBy u32List.Read (λ k. u32List.Short) u32ListOf (u32ListSays r)
+u32List-exact = elim [ u32List.Read x c ↦ refl | u32List.Short ↦ refl ]
 
-pub items-kept : (r : ItemsRead) → r ≡ readBy items.Read (λ k. items.Short) itemsOf (itemsSays r)
-items-kept = elim [ items.Read x c ↦ refl | items.Short ↦ refl ]
+pub items-exact : (r : ItemsRead) → r ≡ readBy items.Read (λ k. items.Short) itemsOf (itemsSays r)
+items-exact = elim [ items.Read x c ↦ refl | items.Short ↦ refl ]
 
 -- ---- steps
 
-pub u16Next-kept : (r : U16Next) → r ≡ nextBy u16Next.Item u16Next.Done u16Next.Refused same (λ e n. u16ListOf (e, n)) (u16NextSays r)
-u16Next-kept = elim [ u16Next.Item x l ↦ refl | u16Next.Done ↦ refl | u16Next.Refused k ↦ refl ]
+pub u16Next-exact : (r : U16Next) → r ≡ nextBy u16Next.Item u16Next.Done u16Next.Refused same (λ e n. u16ListOf (e, n)) (u16NextSays r)
+u16Next-exact = elim [ u16Next.Item x l ↦ refl | u16Next.Done ↦ refl | u16Next.Refused k ↦ refl ]
 
-pub u32Next-kept : (r : U32Next) → r ≡ nextBy u32Next.Item u32Next.Done u32Next.Refused same (λ e n. u32ListOf (e, n)) (u32NextSays r)
-u32Next-kept = elim [ u32Next.Item x l ↦ refl | u32Next.Done ↦ refl | u32Next.Refused k ↦ refl ]
-
-pub itemsNext-kept : (r : ItemsNext) → r ≡ nextBy itemsNext.Item itemsNext.Done itemsNext.Refused blockOf (λ e n. itemsOf (e, n)) (itemsNextSays r)
-itemsNext-kept = elim [ itemsNext.Item x l ↦ refl | itemsNext.Done ↦ refl | itemsNext.Refused k ↦ refl ]
+pub u32Next-exact : (r : U32Next) → r ≡ nextBy u32Next.Item u32Next.Done u32Next.Refused same (λ e n. u32ListOf (e, n)) (u32NextSays r)
+u32Next-exact = elim [ u32Next.Item x l ↦ refl | u32Next.Done ↦ refl | u32Next.Refused k ↦ refl ]
 
 -- ---- copies
 
@@ -122,6 +117,6 @@ abbrev copiedOf : Answer → Copied
 copiedOf (took n) = copied.Copied n
 copiedOf (denied k) = copied.Refused k
 
-pub copied-kept : (r : Copied) → r ≡ copiedOf (copiedSays r)
-copied-kept (copied.Copied n) = refl
-copied-kept (copied.Refused k) = refl
+pub copied-exact : (r : Copied) → r ≡ copiedOf (copiedSays r)
+copied-exact (copied.Copied n) = refl
+copied-exact (copied.Refused k) = refl

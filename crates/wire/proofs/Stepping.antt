@@ -7,7 +7,7 @@ use lib.ListN.{length}
 use Rattle.format.specs.Format.{Format, number}
 use Rattle.format.specs.View.{View, seen, missed, view, item, done, broken, stepped}
 use Rattle.format.specs.Passed.{room}
-use Rattle.wire.specs.Items.{bytesAt, itemsAt, itemStepped}
+use Rattle.wire.specs.Items.{itemsAt}
 
 module _ (f : Format) (s : List ℕ) (at n : ℕ) where
   pub next-done : n ≡ 0 → done ≡ stepped f s at n
@@ -23,19 +23,6 @@ module _ (f : Format) (s : List ℕ) (at n : ℕ) where
   next-off h p = rw (ne-eqb n 0 h, p)
 
 -- items of one width
-module _ (width : ℕ) (s : List ℕ) (at n : ℕ) where
-  pub item-done : n ≡ 0 → done ≡ itemStepped width s at n
-  unfolding itemStepped
-  item-done h = rw (eq-eqb n 0 h)
-
-  pub item-there : (n ≡ 0 → ⊥) → width ≤ length s - at → item (at, width) (at + width) (n - 1) ≡ itemStepped width s at n
-  unfolding itemStepped bytesAt
-  item-there h l = rw (ne-eqb n 0 h, le-leb width (length s - at) l)
-
-  pub item-off : (n ≡ 0 → ⊥) → length s - at < width → broken 7 ≡ itemStepped width s at n
-  unfolding itemStepped bytesAt
-  item-off h l = rw (ne-eqb n 0 h, lt-leb width (length s - at) l)
-
 module _ (width : ℕ) (s : List ℕ) (at : ℕ) where
   pub items-there : {n e : ℕ} → view (number 2) s at ≡ seen n e → n * width ≤ length s - e → seen (e, n) (e + n * width) ≡ itemsAt width s at
   unfolding itemsAt

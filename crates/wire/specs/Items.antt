@@ -1,14 +1,10 @@
--- Items of one width, as ranges of bytes: what a reader of their format finds in each is that reader's to say.
+-- Items of one width, of which none is looked at: what a reader of their format finds in each is that reader's to say.
 use Prim.Native.Nat.{ℕ, _+_, _-_, _*_}
 use mathlib.Core.List.{List}
 use lib.ListN.{length}
-use lib.Dec.{leb, eqb}
+use lib.Dec.{leb}
 use Rattle.format.specs.Format.{number, pick}
-use Rattle.format.specs.View.{Seen, seen, missed, view, Next, done, onward}
-
--- the range of so many bytes at an offset, or 7
-unfoldable pub bytesAt : (width : ℕ) → List ℕ → ℕ → Seen (ℕ × ℕ)
-bytesAt width s at = pick (leb width (length s - at)) (seen (at, width) (at + width)) (missed 7)
+use Rattle.format.specs.View.{Seen, seen, missed, view}
 
 abbrev pub itemsBehind : (width : ℕ) → List ℕ → Seen ℕ → Seen (ℕ × ℕ)
 itemsBehind width s (seen n e) = pick (leb (n * width) (length s - e)) (seen (e, n) (e + n * width)) (missed 7)
@@ -17,8 +13,3 @@ itemsBehind width s (missed k) = missed k
 -- a count of two bytes and as many items: where the first one starts, and how many they are
 unfoldable pub itemsAt : (width : ℕ) → List ℕ → ℕ → Seen (ℕ × ℕ)
 itemsAt width s at = itemsBehind width s (view (number 2) s at)
-
--- one step from an offset with n items left
-unfoldable pub itemStepped : (width : ℕ) → List ℕ → ℕ → ℕ → Next (ℕ × ℕ)
-unfolding bytesAt
-itemStepped width s at n = pick (eqb n 0) done (onward (n - 1) (bytesAt width s at))

@@ -14,7 +14,6 @@ use Rattle.wire.specs.declared.U32ListRead.{U32ListRead}
 use Rattle.wire.specs.declared.ItemsRead.{ItemsRead}
 use Rattle.wire.specs.declared.U16Next.{U16Next}
 use Rattle.wire.specs.declared.U32Next.{U32Next}
-use Rattle.wire.specs.declared.ItemsNext.{ItemsNext}
 use Rattle.wire.specs.declared.Copied.{Copied}
 use Rattle.wire.specs.declared.U8Read.the-variants as u8
 use Rattle.wire.specs.declared.U16Read.the-variants as u16
@@ -28,7 +27,6 @@ use Rattle.wire.specs.declared.U32ListRead.the-variants as u32List
 use Rattle.wire.specs.declared.ItemsRead.the-variants as items
 use Rattle.wire.specs.declared.U16Next.the-variants as u16Next
 use Rattle.wire.specs.declared.U32Next.the-variants as u32Next
-use Rattle.wire.specs.declared.ItemsNext.the-variants as itemsNext
 use Rattle.wire.specs.declared.Copied.the-variants as copied
 
 abbrev pub u8Says : U8Read → Seen ℕ
@@ -80,11 +78,6 @@ abbrev pub u32NextSays : U32Next → Next ℕ
 u32NextSays (u32Next.Item n l) = item n (l .at) (l .left)
 u32NextSays u32Next.Done = done
 u32NextSays (u32Next.Refused k) = broken k
-
-abbrev pub itemsNextSays : ItemsNext → Next (ℕ × ℕ)
-itemsNextSays (itemsNext.Item x l) = item (x .start, x .len) (l .at) (l .left)
-itemsNextSays itemsNext.Done = done
-itemsNextSays (itemsNext.Refused k) = broken k
 
 abbrev pub copiedSays : Copied → Answer
 copiedSays (copied.Copied n) = took n

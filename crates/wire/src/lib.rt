@@ -8,9 +8,9 @@ ghost use Rattle.format.specs.Format.{number, cstring, ucs2, list};
 ghost use Rattle.format.specs.View.{view, stepped, unitsOf};
 ghost use Rattle.format.specs.Passed.{room};
 ghost use Rattle.format.specs.Copy.{took, copyCString, copyUcs2, copyNumbers};
-ghost use Rattle.wire.specs.Items.{itemsAt, itemStepped};
+ghost use Rattle.wire.specs.Items.{itemsAt};
 ghost use Rattle.wire.specs.Says.{u8Says, u16Says, u32Says, cstringSays, ucs2Says, blockSays, skipSays};
-ghost use Rattle.wire.specs.Says.{u16ListSays, u32ListSays, itemsSays, u16NextSays, u32NextSays, itemsNextSays, copiedSays};
+ghost use Rattle.wire.specs.Says.{u16ListSays, u32ListSays, itemsSays, u16NextSays, u32NextSays, copiedSays};
 use search::first_zero;
 use search::first_zero_near;
 use search::units_before_zero;
@@ -120,12 +120,6 @@ pub enum U32Next {
     Refused(u8),
 }
 
-pub enum ItemsNext {
-    Item(Block, Items),
-    Done,
-    Refused(u8),
-}
-
 // The length of a string or a list copied, or the number of the refusal.
 pub enum Copied {
     Copied(usize),
@@ -168,12 +162,6 @@ fn fit(count: u16, width: usize, bytes: usize) -> bool
 // ---- reading
 
 impl Cursor {
-    pub fn new() -> Self
-        ensures { λ r. ⌜ r .at ≡ 0 ⌝ }
-    {
-        Self { at: 0 }
-    }
-
     pub fn u8(self, body: &[u8]) -> U8Read
         ensures { λ r. ⌜ u8Says r ≡ view (number 1) (now (body .entry)) (self .at) ⌝ }
     {
@@ -375,31 +363,6 @@ impl U32List {
         }
         copy_u32s(body, at, left, out);
         Copied::Copied(left)
-    }
-}
-
-impl Items {
-    pub fn next(self, body: &[u8], width: usize) -> ItemsNext
-        ensures { λ r. ⌜ itemsNextSays r ≡ itemStepped width (now (body .entry)) (self .at) (self .left) ⌝ }
-    {
-        let at = self.at;
-        let left = self.left;
-        if left == 0 {
-            return ItemsNext::Done;
-        }
-        if width <= left_from(body, at) {
-            return ItemsNext::Item(
-                Block {
-                    start: at,
-                    len: width,
-                },
-                Items {
-                    at: at + width,
-                    left: left - 1,
-                },
-            );
-        }
-        ItemsNext::Refused(7)
     }
 }
 
