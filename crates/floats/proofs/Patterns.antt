@@ -2,10 +2,10 @@
 use Prim.Native.Nat.{ℕ, _*_, _^_, _<_}
 use mathlib.Core.Path.{_≡_, refl, sym, ap, _∙_}
 use mathlib.Core.Bool.{Bool, true, false, not, _&&_, _||_, Bool·beq}
-use lib.Dec.{T, eqb, eqb-refl, lit<}
+use lib.Dec.{T, eqb, eqb-refl}
 use lib.Ieee.{Float, inf, fin, up, down, binary32, nan, isNan, nanBits, ofBits, toBits, fits, ne, div}
 use lib.Ieee.Fits.{and-i}
-use lib.Ieee.Bits.{ofBits-toBits, toBits-ofBits, toBits-lt, nanBits-is}
+use lib.Ieee.Bits.{ofBits-toBits, toBits-ofBits, nanBits-is}
 use Rattle.floats.specs.Pattern.{chosen, patternOf}
 
 -- ---- both ways
@@ -38,16 +38,6 @@ read-chosen false n x beside e k f = ofBits-toBits binary32 x f
 pub read-of-pattern : (x : Float) (beside : ℕ) → T (fits binary32 x) → ofBits binary32 (patternOf x beside) ≡ x
 unfolding patternOf
 read-of-pattern x beside f = read-chosen (isNan x) (nanBits binary32 beside) x beside refl refl f
-
--- a pattern is a number of 32 bits
-pub pattern-fits : (x : Float) (beside : ℕ) → T (fits binary32 x) → beside < 2 ^ 32 → patternOf x beside < 2 ^ 32
-unfolding patternOf
-pattern-fits x beside f h = each (isNan x) (nanBits binary32 beside)
-  where
-    each : (m n : Bool) → chosen m n beside (toBits binary32 x) < 2 ^ 32
-    each true true = h
-    each true false = lit< tt
-    each false n = toBits-lt binary32 x f
 
 -- ---- what the code tests
 

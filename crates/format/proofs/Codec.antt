@@ -164,10 +164,6 @@ codec (f & g) = sequel (λ x. x .0) (codec f) (beside (codec g))
 pub round-trip : (f : Format) (v : Value f) (rest : List ℕ) → Valid f v → decode f (encode f v ++ rest) ≡ got v rest
 round-trip f = codec f .there
 
-pub round-trip-items : (f : Format) (xs : List (Value f)) (rest : List ℕ) → All (Valid f) xs
-    → decodeItems (decode f) (length xs) (concatMap (encode f) xs ++ rest) ≡ got xs rest
-round-trip-items f xs rest h = items-codec (codec f) (length xs) .there xs rest (refl, h)
-
 -- what is read can be written, and is written as the bytes that were taken
 pub read-back : (f : Format) (s : List ℕ) {v : Value f} {rest : List ℕ} → Bytes s → decode f s ≡ got v rest → Valid f v × (s ≡ encode f v ++ rest)
 read-back f s hs = given (codec f .back s hs)

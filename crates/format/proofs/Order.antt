@@ -1,6 +1,6 @@
 -- Fields are tested in wire order: the first refusal is the answer, and a type byte is tested as soon as it is read, whatever follows.
 use Prim.Native.Nat.{ℕ, suc, _+_, _*_, _≤_}
-use mathlib.Core.Path.{_≡_, refl}
+use mathlib.Core.Path.{_≡_}
 use mathlib.Core.List.{List, _∷_}
 use native.Mathlib.Omega.{arith}
 use borrow.Author.Tests.{le-ltb}

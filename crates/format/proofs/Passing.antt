@@ -97,19 +97,6 @@ unfolding after
 past-both (seen a e) w k = past-after (w e) (k a)
 past-both (missed n) w k = refl
 
--- a list is its count, then its items passed
-pub past-list : (f : Format) (w : ℕ) (s : List ℕ) (at : ℕ) → past (view (list w f) s at) ≡ after (view (number w) s at) (λ n e. passed f s e n)
-unfolding after
-past-list f w s at = ap past (view-list f s w at) ∙ by (view (number w) s at)
-  where
-    same : (v : Seen (Unit {0})) → past v ≡ v
-    same (seen u e) = refl
-    same (missed k) = refl
-
-    by : (v : Seen ℕ) → past {A = ℕ × ℕ} (after v (λ n e. after (passed f s e n) (λ u d. seen (e, n) d))) ≡ after v (λ n e. passed f s e n)
-    by (seen n e) = past-after (passed f s e n) (λ u. (e, n)) ∙ same (passed f s e n)
-    by (missed k) = refl
-
 -- an item is passed, then the others
 module _ (f : Format) (s : List ℕ) (at : ℕ) where
   pub passed-past : (n : ℕ) → 0 < n → passed f s at n ≡ after (past (view f s at)) (λ u e. passed f s e (n - 1))

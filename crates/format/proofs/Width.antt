@@ -1,15 +1,15 @@
--- How many bytes a value takes, where the bytes behind it begin, and items of one width found by their number.
-use Prim.Native.Nat.{ℕ, zero, suc, _+_, _*_, _/_, _≤_, _<_, zero-le}
+-- How many bytes a value takes, where the bytes behind it begin, and formats of one width.
+use Prim.Native.Nat.{ℕ, zero, suc, _+_, _*_, _/_, _≤_, zero-le}
 use mathlib.Core.Path.{_≡_, refl, sym, ap, _∙_}
 use mathlib.Core.List.{List, [], _∷_}
-use native.Mathlib.Nat.{zero-mul, one-mul, suc-add, not-suc-le-zero}
+use native.Mathlib.Nat.{suc-add}
 use native.Mathlib.Omega.{arith}
-use lib.ListN.{length, drop, getD, length-append, length-drop}
+use lib.ListN.{length, drop, length-append, length-drop}
 use lib.Seq.{drop-drop}
 use lib.Dec.{ltb, eqb}
 use Rattle.format.specs.Format.{Format, number, code, cstring, ucs2, list, _&_, Value, Read, got}
 use Rattle.format.specs.Format.{decodeNumber, decodeItems, decodeCString, decodeUcs2, decode, encodeNumber, concatMap, encode, total, size}
-use Rattle.format.proofs.Reading.{Gives, gives, fails, given, gives-self, gives-map, gives-bind, gives-pick, gives-both}
+use Rattle.format.proofs.Reading.{Gives, gives, fails, given, gives-self, gives-map, gives-bind, gives-pick}
 
 -- ---- the size of a value
 
@@ -154,48 +154,3 @@ size-is-width (f & g) h v = rw (size-is-width f (h .0) (v .0), size-is-width g (
 
 pub length-is-width : (f : Format) → Fixed f → (v : Value f) → length (encode f v) ≡ width f
 length-is-width f h v = sym (size-is-length f v) ∙ size-is-width f h v
-
-pub decode-width : (f : Format) → Fixed f → (s : List ℕ) → Gives (λ v t. Behind (width f) s t) (decode f s)
-decode-width f h s = gives-map (decode-behind f s) λ v t b. rw (size-is-width f h v) at b
-
--- ---- the law of stepping, over the width
-
--- n items of k bytes each from the start of s: item i is read i * k bytes in, and t follows them all
-pub record Stepped {A : Type 0} (read : List ℕ → Read A) (k n : ℕ) (s : List ℕ) (xs : List A) (t : List ℕ) : Type 0 where
-  pub follows : t ≡ drop (n * k) s
-  pub item : (i : ℕ) (d : A) → i < n → read (drop (i * k) s) ≡ got (getD xs i d) (drop ((i + 1) * k) s)
-
-module _ {A : Type 0} {read : List ℕ → Read A} (k : ℕ) where
-  stepped-none : (s : List ℕ) → Stepped read k 0 s [] s
-  stepped-none s = record { follows = rw zero-mul; item = λ i d l. absurd (not-suc-le-zero l) }
-
-  stepped-cons : {n : ℕ} {s t : List ℕ} {x : A} {xs : List A} → read s ≡ got x (drop k s) → Stepped read k n (drop k s) xs t → Stepped read k (suc n) s (x ∷ xs) t
-  stepped-cons {n} {s} {x} {xs} first rest = record {
-    follows = let more : suc n * k ≡ k + n * k = omega arith in rw (more, ← drop-drop) (rest .follows);
-    item = item;
-  }
-    where
-      item : (i : ℕ) (d : A) → i < suc n → read (drop (i * k) s) ≡ got (getD (x ∷ xs) i d) (drop ((i + 1) * k) s)
-      item zero d l = rw (zero-mul, one-mul) first
-      item (suc i) d l =
-          let here : suc i * k ≡ k + i * k = omega arith in
-          let next : (suc i + 1) * k ≡ k + (i + 1) * k = omega arith in
-          rw (here, next) (simp (← drop-drop) (rest .item i d (omega arith)))
-
-  pub items-steps : ((s : List ℕ) → Gives (λ a t. Behind k s t) (read s)) → (n : ℕ) (s : List ℕ) → Gives (Stepped read k n s) (decodeItems read n s)
-  unfolding decodeItems
-  items-steps h zero s = gives (stepped-none s)
-  items-steps h (suc n) s = gives-bind (gives-self (read s)) λ x t e.
-      let next : t ≡ drop k s = given (h s) e .rest in
-      gives-bind (items-steps h n t) λ xs u rest. gives (stepped-cons (rw next at e) (rw next at rest))
-
--- the items of a list stand behind its count
-pub list-steps : (w : ℕ) (f : Format) → Fixed f → (s : List ℕ) → Gives (λ xs t. Stepped (decode f) (width f) (length xs) (drop w s) xs t) (decode (list w f) s)
-unfolding decode
-list-steps w f h s = gives-bind (number-behind w s) λ n t b.
-    gives-map (gives-both (items-count (decode f) n t) (items-steps (width f) (decode-width f h) n t)) λ xs u both. rw (both .0, ← b .rest) (both .1)
-
--- where n items stand at offset o in a body, item i is read at o + i * width, and the next one behind it
-pub stepping : (f : Format) → Fixed f → (body : List ℕ) (o n : ℕ) {xs : List (Value f)} {t : List ℕ} → decodeItems (decode f) n (drop o body) ≡ got xs t
-    → (i : ℕ) (d : Value f) → i < n → decode f (drop (o + i * width f) body) ≡ got (getD xs i d) (drop (o + (i + 1) * width f) body)
-stepping f h body o n e i d l = simp (← drop-drop) (given (items-steps (width f) (decode-width f h) n (drop o body)) e .item i d l)

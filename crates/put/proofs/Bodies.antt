@@ -64,10 +64,8 @@ taken {n} {at} {place} {zeros} {long} {f} {v} {out} {after} w h u =
     let fits = passed zeros long (at + length (encode f v)) (length out) none in
     rw (none, put-whole (u .writes) (fits .has-room), u .writes .stored) refl
 
--- what `search` makes the answers of a body's writer from; and of a head's
+-- what `search` makes the answers of a body's writer from
 pub ruleset bodies = (refl, refused, taken, weight, sized, sized-whole, judging, put-pair, put-code, put-as)
-
-pub ruleset heads = (refl, refused, taken, weight-head, sized, sized-whole, put-pair, put-code, put-as)
 
 -- ---- what an answer tells
 
