@@ -2,7 +2,7 @@
 // A size is at most usize::MAX; its contract has 0 for each number, whose width is fixed.
 // A list is written as its head with the count of its items, then item by item; a count is given wider than its field.
 ghost use mathlib.Core.Path.{_≡_};
-ghost use Rattle.format.specs.Format.{number, ucs2, list, size, _&_};
+ghost use Rattle.format.specs.Format.{number, ucs2, size};
 ghost use Rattle.format.specs.View.{view};
 ghost use Rattle.format.specs.Passed.{inRange};
 ghost use Rattle.protocol.specs.Kind.{laserPointFormat};

@@ -1,5 +1,4 @@
 -- What an answer says determines it: nothing is lost.
-use Prim.Native.Nat.{ℕ}
 use mathlib.Core.Path.{_≡_, refl}
 use Rattle.format.specs.View.{View}
 use Rattle.protocol.specs.Kind as kind

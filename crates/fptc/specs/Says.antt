@@ -1,5 +1,4 @@
 -- What each answer says: a body's fields with the offset behind them, or the number of the refusal.
-use Prim.Native.Nat.{ℕ}
 use Rattle.format.specs.Format.{Format}
 use Rattle.format.specs.View.{View, Seen, seen, missed}
 use Rattle.protocol.specs.Kind as kind

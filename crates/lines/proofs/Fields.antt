@@ -1,12 +1,12 @@
 -- The lines of each field as a write of its parts: what `search` makes the answers of the functions from.
 use Prim.Native.Nat.{ℕ, _≤_}
-use mathlib.Core.Path.{_≡_, refl, sym, ap, _∙_}
-use mathlib.Core.List.{List, _++_}
+use mathlib.Core.Path.{_≡_, refl}
+use mathlib.Core.List.{List}
 use native.Mathlib.Omega.{arith}
 use lib.ListN.{length, take, drop, length-drop}
 use lib.Seq.{take-all}
-use Rattle.format.specs.Format.{Format, number, concatMap}
-use Rattle.format.specs.View.{View, steps, unitsOf}
+use Rattle.format.specs.Format.{Format, concatMap}
+use Rattle.format.specs.View.{View, unitsOf}
 use Rattle.text.specs.Prints.{Prints}
 use Rattle.text.proofs.Prints.{put-then}
 use Rattle.text.specs.Text as text

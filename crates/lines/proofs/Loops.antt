@@ -2,7 +2,6 @@
 use Prim.Native.Nat.{ℕ}
 use mathlib.Core.Path.{refl}
 use mathlib.Core.List.{[]}
-use borrow.Author.Needs as kit
 use Rattle.format.specs.Format.{number}
 use Rattle.wire.specs.Says.{u16NextSays, u32NextSays}
 use Rattle.wire.specs.declared.U16List.{U16List}
@@ -10,7 +9,6 @@ use Rattle.wire.specs.declared.U32List.{U32List}
 use Rattle.wire.specs.declared.U16Next.the-variants as u16-next
 use Rattle.wire.specs.declared.U32Next.the-variants as u32-next
 use Rattle.text.proofs.Loops as text
-use Rattle.text.proofs.Loops.{Onto}
 use Rattle.lines.specs.Lines.{decimal}
 use Rattle.lines.proofs.Fields.{fields}
 use Rattle.lines.proofs.Items.{Itemized, itemized}

@@ -5,14 +5,12 @@ use mathlib.Core.List.{List, append-nil}
 use mathlib.Core.Option.{Option, none, some}
 use Rattle.format.specs.View.{View}
 use Rattle.protocol.specs.Kind.{Kind, bodyOf}
-use Rattle.protocol.specs.Step as spec
 use Rattle.text.specs.Prints.{Prints}
 use Rattle.text.proofs.Prints.{put-then}
 use Rattle.text.specs.Text.{chars, decimal, hex, line}
 use Rattle.names.specs.Messages.{messageLines}
 use Rattle.citp.specs.Says.{messageKind, messageHint, messageView, reportSays, packetSays, bodyOfReport}
 use Rattle.citp.specs.declared.Message.{Message}
-use Rattle.citp.specs.declared.Report.{Report}
 use Rattle.citp.specs.declared.PacketReport.{PacketReport}
 use Rattle.citp.specs.declared.Report.the-variants as content
 use Rattle.listing.specs.Listing.{messageReport, unknownReport, fragmentReport, refusalReport, contentLines, reportLines, endLines}

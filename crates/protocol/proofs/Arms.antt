@@ -1,13 +1,13 @@
 -- A body of a layer, by its content type: what the arms of a layer's dispatch show.
 use Prim.Native.Nat.{ℕ}
-use mathlib.Core.Path.{_≡_, refl, ap, _∙_}
+use mathlib.Core.Path.{_≡_}
 use mathlib.Core.Bool.{true}
 use mathlib.Core.List.{List}
 use mathlib.Core.Option.{none}
 use Rattle.format.specs.View.{View, Seen, view}
 use Rattle.protocol.specs.Layer.{Layer}
 use Rattle.protocol.specs.Kind.{Kind, layer, contentType, bodyOf, isRead, kindOf}
-use Rattle.protocol.specs.Step.{Body, unread, bodySeen, readBody}
+use Rattle.protocol.specs.Step.{unread, bodySeen, readBody}
 use Rattle.protocol.proofs.Lookup.{kind-found}
 
 -- a kind's own content type: what its reader saw

@@ -1,8 +1,8 @@
 // Where a string ends: its zero byte, or its zero 16-bit unit, found by blocks. A block is folded without a way out, so that the compiler takes
 // many bytes at a time; a hit in a block claims nothing, the bytes are then looked at one by one.
-ghost use Prim.Native.Nat.{ℕ, _+_, _*_, _<_, _≤_, min};
+ghost use Prim.Native.Nat.{_+_, _*_, _<_, _≤_, min};
 ghost use mathlib.Core.Path.{_≡_};
-ghost use lib.ListN.{length, drop};
+ghost use lib.ListN.{drop};
 ghost use Rattle.search.specs.Zero.{beforeZero, unitsBeforeZero};
 ghost use Rattle.search.specs.Free.{byteOf, unitOf, Rows, Free, First};
 

@@ -1,6 +1,6 @@
 -- The hypotheses on packets leave none out: every long enough packet has its base header and layer header, and what the writer accepted of the two kinds
 -- that are written only is a packet of an unknown kind.
-use Prim.Native.Nat.{ℕ, _+_, _-_, _^_, _≤_, _<_}
+use Prim.Native.Nat.{ℕ, _+_, _^_, _≤_, _<_}
 use mathlib.Core.Path.{_≡_, refl, sym, ap, _∙_, subst}
 use mathlib.Core.Bool.{Bool, true, false, false≢true}
 use mathlib.Core.List.{List, [], _++_, append-nil}

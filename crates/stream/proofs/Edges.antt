@@ -1,5 +1,4 @@
 -- The edges, by computation: the table that is proved, and more of them.
-use Prim.Native.Nat.{ℕ}
 use mathlib.Core.Path.{_≡_, refl}
 use mathlib.Core.Bool.{true, false}
 use mathlib.Core.List.{[], _∷_}

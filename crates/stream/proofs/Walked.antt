@@ -1,5 +1,5 @@
 -- The walk over every list of packets of demand 3 gives exactly the reports due, and striking unknown packets and fragments changes nothing but offsets.
-use Prim.Native.Nat.{ℕ, _+_, _-_, _≤_, _<_}
+use Prim.Native.Nat.{ℕ, _+_, _≤_, _<_}
 use mathlib.Core.Path.{_≡_, refl, sym, ap, _∙_}
 use mathlib.Core.List.{List, [], _++_, append-nil, map}
 use mathlib.Core.Option.{Option, none, some}

@@ -1,5 +1,5 @@
 -- The claims, from top to bottom: the theorems of the three demands, as statements. Each is proved under its name in the file of proofs/ named beside it.
-use Prim.Native.Nat.{ℕ, _+_, _≤_}
+use Prim.Native.Nat.{ℕ, _≤_}
 use mathlib.Core.Path.{_≡_}
 use mathlib.Core.Bool.{true}
 use mathlib.Core.Logic.{_⊎_}

@@ -5,7 +5,7 @@ use mathlib.Core.List.{List, [], _∷_, _++_}
 use native.Mathlib.Nat.{sub-zero, zero-sub, suc-sub-suc}
 use native.Mathlib.Omega.{arith}
 use lib.ListN.{length, set, drop, length-append, length-drop, drop-of-length-le}
-use lib.Seq.{sets, length-sets, set-out, drop-nil}
+use lib.Seq.{length-sets, set-out, drop-nil}
 use Rattle.put.specs.Put.{Puts}
 use Rattle.put.proofs.Writing as put
 use Rattle.text.specs.Prints.{Prints}

@@ -1,7 +1,7 @@
 -- Each from text as a write of its parts: what `search` makes the answers of the functions from.
 use Prim.Native.Nat.{ℕ, _+_, _/_, _%_, _^_, _≤_, _<_}
-use mathlib.Core.Path.{_≡_, refl}
-use mathlib.Core.List.{List, [], _∷_, _++_}
+use mathlib.Core.Path.{_≡_}
+use mathlib.Core.List.{List, [], _∷_}
 use native.Mathlib.Omega.{arith}
 use Rattle.text.specs.Prints.{Prints}
 use Rattle.text.proofs.Prints.{put-then}

@@ -1,7 +1,6 @@
 // Writes a packet by turns: open, then a flat body in one call or a list's head and its items one by one, then close.
 ghost use mathlib.Core.Path.{_≡_};
 ghost use mathlib.Core.Bool.{_&&_};
-ghost use Prim.Native.Nat.{_-_};
 ghost use Rattle.protocol.specs.Kind as kinds;
 ghost use Rattle.writing.specs.Call.{opens, give, closes, body, laserFeedList, feedName, laserFeedFrame, laserPoint, fixtureList, fixture, identifier, fixtureData};
 ghost use Rattle.writing.specs.Writer.{apply, idle, isIdle, isBody, isItem, isIdentifier, isData, isClose, behindHeaders};

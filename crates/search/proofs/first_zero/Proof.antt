@@ -1,4 +1,3 @@
-use borrow.Author.Needs.{needs}
 use Rattle.search.proofs.Free.{free-none}
 use Rattle.search.proofs.Zero.{first-is}
 use native.Mathlib.Omega.{arith}

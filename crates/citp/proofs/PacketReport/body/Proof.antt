@@ -1,5 +1,4 @@
-use mathlib.Core.Path.{_∙_, ap}
-use lib.ListN.{take, drop}
+use mathlib.Core.Path.{_∙_}
 use Rattle.citp.proofs.LayerOf.{part-at}
 use denote.Ref.{now}
 use Rattle.citp.proofs.PacketReport.body.Statement.{statement}
