@@ -1,10 +1,10 @@
 // The walk over a stream of packets: one step, its report, and the body that a report speaks of.
 ghost use mathlib.Core.Path.{_≡_};
 ghost use Prim.Native.Nat.{_-_, _+_, _≤_};
-ghost use lib.ListN.{length, take, drop};
+ghost use lib.ListN.{length, take};
 ghost use Rattle.protocol.specs.Layer as layer;
 ghost use Rattle.protocol.specs.Kind.{layer as layerOfKind};
-ghost use Rattle.protocol.specs.Layer.{cookie, headerLength, layerHeader, layerOf};
+ghost use Rattle.protocol.specs.Layer.{cookie, headerLength, layerHeader};
 ghost use Rattle.format.specs.View.{view};
 ghost use mathlib.Core.Option.{some};
 ghost use Rattle.protocol.specs.Step.{readBody, contentOf, readLayer, contentAt, startNumber, stepAt};

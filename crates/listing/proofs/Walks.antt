@@ -1,8 +1,7 @@
 -- The listing of a stream, written packet by packet.
-use Prim.Native.Nat.{ℕ, zero, suc, _+_, _-_, _≤_, _<_}
-use mathlib.Core.Path.{_≡_, refl, ap, _∙_}
+use Prim.Native.Nat.{ℕ, suc, _+_, _-_, _≤_, _<_}
+use mathlib.Core.Path.{_≡_, refl, _∙_}
 use mathlib.Core.List.{List, _++_, append-assoc}
-use mathlib.Core.Option.{some}
 use native.Mathlib.Nat.{zero-add, add-zero, sub-zero, zero-sub}
 use native.Mathlib.Omega.{arith}
 use borrow.Author.Needs as kit

@@ -14,7 +14,7 @@ use Rattle.format.proofs.Walks.{Steps, stops, goes, walk-ends}
 use Rattle.format.proofs.Copies.{cstring-copies, ucs2-copies, numbers-copies}
 use Rattle.format.proofs.Refusal.{codesWithin, Refuses, reads, refuses, refused-with, decode-refuses}
 use Rattle.protocol.specs.Layer.{Layer, headerLength, layerOf, header, layerHeader, sizeField, countField, partField, layerField}
-use Rattle.protocol.specs.Kind.{Kind, layer, bodyOf, kindOf, sameKind}
+use Rattle.protocol.specs.Kind.{Kind, bodyOf, kindOf, sameKind}
 use Rattle.protocol.specs.Kind.{FixtureList}
 use Rattle.protocol.proofs.Every.{every, every-kind}
 use Rattle.protocol.specs.Step.{Content, message, unknown, fragment, refusal, Report, bodySeen, bodyAs, readBody, contentOf, readLayerHeader, readLayer, contentAt, stepAt, walk}

@@ -6,7 +6,6 @@ use mathlib.Core.List.{List}
 use native.Mathlib.Omega.{arith}
 use borrow.Author.Tests.{le-ltb}
 use lib.ListN.{length, length-append}
-use lib.Dec.{ltb}
 use Rattle.format.specs.Format.{Format, Value, number, _&_, encode, encodeNumber, size}
 use Rattle.format.specs.Fault.{weighed, holdsZero, tooLong}
 use Rattle.protocol.specs.Layer.{Layer, PINF, SDMX, FPTC, FSEL, FINF, CAEX, cookie, headerLength, hasHint, hintLength, header, layerHeader, citp}

@@ -4,7 +4,7 @@ use mathlib.Core.List.{map}
 use Rattle.protocol.specs.Kind.{ChLs}
 use Rattle.writing.specs.Call.{give, body}
 use Rattle.chls.specs.Levels.{levelValue}
-use Rattle.chls.proofs.Handing.{Handing, Held, struct, before, handed}
+use Rattle.chls.proofs.Handing.{Handing, struct, before, handed}
 use Rattle.writing.specs.Writer.{apply}
 use Rattle.writer.specs.Says.{stateOf, writtenSays}
 use Rattle.writer.proofs.Writer as M
