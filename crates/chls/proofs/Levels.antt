@@ -10,10 +10,10 @@ use lib.ListN.{length, take, getD, set, replicate, length-append, length-map}
 use lib.Seq.{sets, length-sets, take-length, length-take-le}
 use lib.Dec.{leb}
 use Rattle.format.specs.Format.{number, encode, encodeNumber, concatMap, size, total}
-use Rattle.format.specs.Fault.{holdsZero, tooLong}
+use Rattle.format.specs.Fault.{holdsZero, tooLong, limit}
 use Rattle.format.proofs.Faults.{any-never}
 use Rattle.protocol.specs.Kind.{channelLevelFormat}
-use Rattle.put.specs.Put.{Writes, limit, capped, Weighs, settled, putJudged, putAt}
+use Rattle.put.specs.Put.{Writes, capped, Weighs, settled, putJudged, putAt}
 use Rattle.put.specs.declared.Put.{Put}
 use Rattle.put.proofs.Weighing.{weighed-capped, passed}
 use Rattle.sdmx.specs.declared.ChannelLevel.{ChannelLevel}

@@ -8,7 +8,6 @@ use lib.Dec.{leb}
 use Rattle.format.specs.Format.{Value, encodeNumber}
 use Rattle.format.specs.Fault.{weighed}
 use Rattle.protocol.specs.Kind.{channelLevelFormat}
-use Rattle.put.specs.Put.{limit}
 use Rattle.put.specs.declared.Put.{Put}
 use Rattle.sdmx.specs.declared.ChannelLevel.{ChannelLevel}
 
@@ -17,7 +16,7 @@ levelValue l = (l .«universe_index», (l .channel, l .«channel_level»))
 
 -- the number of a write of so many records
 unfoldable pub numberOf : (at count room : ℕ) → ℕ
-numberOf at count room = weighed limit false (leb 65536 count) (at + (2 + 4 * count)) room
+numberOf at count room = weighed false (leb 65536 count) (at + (2 + 4 * count)) room
 
 -- by a write's number: taken, or refused
 abbrev pub byNumber : {A : Type 0} → ℕ → A → A → A

@@ -20,12 +20,10 @@ use header::HeaderRead;
 use layers::Layer;
 use layers::LayerFound;
 use pinf::Pinf;
+use put::LIMIT;
 use sdmx::Sdmx;
 use wire::Block;
 use wire::U32Read;
-
-// The bytes of the largest packet.
-pub const LIMIT: usize = 16_777_216;
 
 // ---- reports
 

@@ -42,6 +42,10 @@ Fits ucs2 xs = All (λ x. x < 65536) xs
 Fits (list w f) xs = All (Fits f) xs
 Fits (f & g) x = Fits f (x .0) × Fits g (x .1)
 
+-- the bytes of the largest packet
+abbrev pub limit : ℕ
+limit = 16777216
+
 -- the number of a write that ends at a place of an output with so much room: 11, 12, a packet past its limit 15, an output too short 13, in that order; or 0
-abbrev pub weighed : (limit : ℕ) (zeros long : Bool) (end room : ℕ) → ℕ
-weighed limit zeros long end room = pick zeros 11 (pick long 12 (pick (ltb limit end) 15 (pick (ltb room end) 13 0)))
+abbrev pub weighed : (zeros long : Bool) (end room : ℕ) → ℕ
+weighed zeros long end room = pick zeros 11 (pick long 12 (pick (ltb limit end) 15 (pick (ltb room end) 13 0)))

@@ -17,7 +17,8 @@ use Rattle.format.proofs.Width.{size-is-length, size-is-width, decode-behind}
 use Rattle.format.specs.View.{View, seen, view, placed, place, look}
 use Rattle.format.proofs.Look.{holds}
 use Rattle.format.specs.Walk.{Step, report}
-use Rattle.protocol.specs.Layer.{Layer, cookie, headerLength, hinted, header, layerHeader, limit, requestField, sizeField, countField, partField, layerField}
+use Rattle.format.specs.Fault.{limit}
+use Rattle.protocol.specs.Layer.{Layer, cookie, headerLength, hinted, header, layerHeader, requestField, sizeField, countField, partField, layerField}
 use Rattle.protocol.specs.Kind.{layer, contentType, bodyOf, isRead}
 use Rattle.protocol.specs.Step as reported
 use Rattle.protocol.specs.Step.{Report, contentAt, stepRest, stepAt, readBody}

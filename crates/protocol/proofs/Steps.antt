@@ -11,7 +11,8 @@ use Rattle.format.specs.Format.{Value, Read, got, refused, pick, decode}
 use Rattle.format.proofs.Bools.{neither}
 use Rattle.format.specs.View.{View}
 use Rattle.format.specs.Walk.{Step, stop, report}
-use Rattle.protocol.specs.Layer.{header, citp, limit, cookieField, majorField, sizeField}
+use Rattle.format.specs.Fault.{limit}
+use Rattle.protocol.specs.Layer.{header, citp, cookieField, majorField, sizeField}
 use Rattle.protocol.specs.Step.{Report, contentAt, cut, startNumber, started, headed, stepAt}
 
 -- ---- the start of a packet

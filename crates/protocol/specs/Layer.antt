@@ -95,7 +95,3 @@ layerField h = h .1 .1 .1 .1 .1 .1 .1
 -- content type and, in FPTC, content hint; a number of no bytes is read as 0
 abbrev pub layerHeader : Layer → Format
 layerHeader l = number 4 & number (hintLength l)
-
--- the largest packet
-abbrev pub limit : ℕ
-limit = 16777216

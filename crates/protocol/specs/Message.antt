@@ -4,7 +4,8 @@ use mathlib.Core.List.{List, _++_}
 use lib.ListN.{length}
 use lib.Seq.{sets}
 use Rattle.format.specs.Format.{number, Value, encode, size, Valid}
-use Rattle.protocol.specs.Layer.{Layer, cookie, headerLength, header, citp, layerHeader, limit}
+use Rattle.format.specs.Fault.{limit}
+use Rattle.protocol.specs.Layer.{Layer, cookie, headerLength, header, citp, layerHeader}
 use Rattle.protocol.specs.Kind.{Kind, layer, contentType, bodyOf}
 
 -- a kind, request_index, content_hint, which is not sent outside FPTC, and the values of the body's fields

@@ -8,7 +8,8 @@ use lib.Dec.{ltb, eqb}
 use Rattle.format.specs.Format.{Format, Value, Read, got, refused, pick, decode}
 use Rattle.format.specs.View.{View, Seen, seen, missed, view, look}
 use Rattle.format.specs.Walk.{Step, stop, report, Walked, walkAll}
-use Rattle.protocol.specs.Layer.{Layer, cookie, headerLength, hinted, layerOf, header, citp, layerHeader, limit}
+use Rattle.format.specs.Fault.{limit}
+use Rattle.protocol.specs.Layer.{Layer, cookie, headerLength, hinted, layerOf, header, citp, layerHeader}
 use Rattle.protocol.specs.Layer.{cookieField, majorField, requestField, sizeField, countField, partField, layerField}
 use Rattle.protocol.specs.Kind.{Kind, layer, bodyOf, kindOf}
 

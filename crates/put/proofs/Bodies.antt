@@ -9,7 +9,7 @@ use lib.Seq.{sets}
 use Rattle.format.specs.Format.{Format, Value, encode, size}
 use Rattle.format.specs.Fault.{holdsZero, tooLong, weighed}
 use Rattle.format.proofs.Width.{size-is-length}
-use Rattle.put.specs.Put.{Writes, limit, capped, Weighs, settled, putJudged}
+use Rattle.put.specs.Put.{Writes, capped, Weighs, settled, putJudged}
 use Rattle.put.specs.declared.Put.{Put}
 use Rattle.put.proofs.Writing.{put-whole, put-pair, put-code, put-as}
 use Rattle.put.proofs.Judging.{Judged, zero-in, too-long, judging}
@@ -27,7 +27,7 @@ sized-whole {f} {v} e = record { sized-as = rw (← size-is-length f v) (omega a
 
 -- n is the number of a write of v
 pub record Weighed (n : ℕ) (zeros long : Bool) (f : Format) (v : Value f) (at : ℕ) (out : List ℕ) : Type 0 where
-  pub weighed-as : n ≡ weighed limit zeros long (at + length (encode f v)) (length out)
+  pub weighed-as : n ≡ weighed zeros long (at + length (encode f v)) (length out)
 
 -- a head, whose count is declared: the caller says whether it is too long
 pub weight-head : {n len at : ℕ} {out : List ℕ} {zeros zeros′ long long′ : Bool} {f : Format} {v : Value f}
@@ -35,7 +35,7 @@ pub weight-head : {n len at : ℕ} {out : List ℕ} {zeros zeros′ long long′
 weight-head {n} {len} {at} {out} {zeros} {zeros′} {long} {long′} {f} {v} w z l s = record {
   weighed-as = rw (z, l) at (w .weighs)
       ∙ sym (weighed-capped zeros long at len (length out))
-      ∙ ap (λ (k : ℕ). weighed limit zeros long (at + k) (length out)) (s .sized-as)
+      ∙ ap (λ (k : ℕ). weighed zeros long (at + k) (length out)) (s .sized-as)
       ∙ weighed-capped zeros long at (length (encode f v)) (length out);
 }
 
@@ -60,7 +60,7 @@ pub taken : {n at place : ℕ} {zeros long : Bool} {f : Format} {v : Value f} {o
     → _≡_ {A = Put × List ℕ} (record { number = 0; at = place }, after) (putJudged zeros long f v at out)
 unfolding putJudged
 taken {n} {at} {place} {zeros} {long} {f} {v} {out} {after} w h u =
-    let none : weighed limit zeros long (at + length (encode f v)) (length out) ≡ 0 = sym (w .weighed-as) ∙ h in
+    let none : weighed zeros long (at + length (encode f v)) (length out) ≡ 0 = sym (w .weighed-as) ∙ h in
     let fits = passed zeros long (at + length (encode f v)) (length out) none in
     rw (none, put-whole (u .writes) (fits .has-room), u .writes .stored) refl
 
@@ -75,9 +75,9 @@ settled-number (suc n) at bytes out = refl
 
 module _ (zeros long : Bool) (f : Format) (v : Value f) (at : ℕ) (out : List ℕ) {p : Put} {after : List ℕ}
     (e : _≡_ {A = Put × List ℕ} (p, after) (putJudged zeros long f v at out)) where
-  pub answer-number : p .number ≡ weighed limit zeros long (at + length (encode f v)) (length out)
+  pub answer-number : p .number ≡ weighed zeros long (at + length (encode f v)) (length out)
   unfolding putJudged
-  answer-number = ap (λ (x : Put × List ℕ). x .0 .number) e ∙ settled-number (weighed limit zeros long (at + length (encode f v)) (length out)) at (encode f v) out
+  answer-number = ap (λ (x : Put × List ℕ). x .0 .number) e ∙ settled-number (weighed zeros long (at + length (encode f v)) (length out)) at (encode f v) out
 
   -- refused
   pub answer-kept : (p .number ≡ 0 → ⊥) → _≡_ {A = Put × List ℕ} (p, after) (record { number = p .number; at = at }, out)

@@ -7,20 +7,20 @@ use native.Mathlib.Omega.{arith}
 use borrow.Author.Tests.{lt-ltb, ltb-false}
 use lib.Dec.{ltb}
 use Rattle.format.specs.Format.{pick}
-use Rattle.format.specs.Fault.{weighed}
-use Rattle.put.specs.Put.{limit, capped, Weighs}
+use Rattle.format.specs.Fault.{weighed, limit}
+use Rattle.put.specs.Put.{most, capped, Weighs}
 use Rattle.put.proofs.Writing.{split}
 
-weighed-past : (zeros long : Bool) (x y room : ℕ) → limit < x → limit < y → weighed limit zeros long x room ≡ weighed limit zeros long y room
+weighed-past : (zeros long : Bool) (x y room : ℕ) → limit < x → limit < y → weighed zeros long x room ≡ weighed zeros long y room
 weighed-past zeros long x y room h k = rw (lt-ltb limit x h, lt-ltb limit y k) refl
 
-pub weighed-capped : (zeros long : Bool) (at x room : ℕ) → weighed limit zeros long (at + capped x) room ≡ weighed limit zeros long (at + x) room
-weighed-capped zeros long at x room = split x 18446744073709551615
+pub weighed-capped : (zeros long : Bool) (at x room : ℕ) → weighed zeros long (at + capped x) room ≡ weighed zeros long (at + x) room
+weighed-capped zeros long at x room = split x most
     (λ h. rw (min-eq-left h) refl)
     (λ h. weighed-past zeros long (at + capped x) (at + x) room (omega arith) (omega arith))
 
 pub weigh-capped : {n end : ℕ} (zeros long : Bool) (at len room : ℕ)
-    → n ≡ weighed limit zeros long end room → end ≡ capped (at + len) → Weighs n zeros long at len room
+    → n ≡ weighed zeros long end room → end ≡ capped (at + len) → Weighs n zeros long at len room
 weigh-capped zeros long at len room e m = record { weighs = rw m at e ∙ simp zero-add at (weighed-capped zeros long 0 (at + len) room) }
 
 -- a write that is taken
@@ -34,7 +34,7 @@ pick-no : (b : Bool) (n m : ℕ) → pick b (suc n) m ≡ 0 → (b ≡ false) ×
 pick-no true n m e = absurd (suc-ne-zero n e)
 pick-no false n m e = (refl, e)
 
-pub passed : (zeros long : Bool) (end room : ℕ) → weighed limit zeros long end room ≡ 0 → Passed zeros long end room
+pub passed : (zeros long : Bool) (end room : ℕ) → weighed zeros long end room ≡ 0 → Passed zeros long end room
 passed true long end room e = absurd (omega arith)
 passed false true end room e = absurd (omega arith)
 passed false false end room e =

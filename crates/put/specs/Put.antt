@@ -19,17 +19,17 @@ pub record Puts (bytes : List ℕ) (at : ℕ) (before : List ℕ) (place : ℕ) 
 pub record Writes (f : Format) (v : Value f) (at : ℕ) (before : List ℕ) (place : ℕ) (after : List ℕ) : Type 0 where
   pub writes : Puts (encode f v) at before place after
 
--- the bytes of the largest packet
-abbrev pub limit : ℕ
-limit = 16777216
+-- usize::MAX
+abbrev pub most : ℕ
+most = 18446744073709551615
 
 -- a number of bytes, at most usize::MAX, which no memory holds: no sum of the code wraps
 abbrev pub capped : ℕ → ℕ
-capped n = min n 18446744073709551615
+capped n = min n most
 
 -- the number of a write of len bytes at a place of an output of room bytes
 pub record Weighs (number : ℕ) (zeros long : Bool) (at len room : ℕ) : Type 0 where
-  pub weighs : number ≡ weighed limit zeros long (at + len) room
+  pub weighs : number ≡ weighed zeros long (at + len) room
 
 -- what a writer of this number answers, and the output: with 0 the bytes stand at the place, and the answer's place is behind them;
 -- with any other number place and output are what they were
@@ -39,7 +39,7 @@ settled (suc n) at bytes out = (record { number = suc n; at = at }, out)
 
 -- a value at a place, where `zeros` says that a string holds a zero, and `long` that a list, or a count that is declared, is too long
 unfoldable pub putJudged : (zeros long : Bool) (f : Format) → Value f → (at : ℕ) (out : List ℕ) → Put × List ℕ
-putJudged zeros long f v at out = settled (weighed limit zeros long (at + length (encode f v)) (length out)) at (encode f v) out
+putJudged zeros long f v at out = settled (weighed zeros long (at + length (encode f v)) (length out)) at (encode f v) out
 
 -- a body at a place: what its `write_to_bytes` answers, and the output after it
 abbrev pub putAt : (f : Format) → Value f → (at : ℕ) (out : List ℕ) → Put × List ℕ

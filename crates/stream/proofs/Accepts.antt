@@ -9,10 +9,11 @@ use borrow.Author.Tests.{lt-leb, lt-ltb, le-leb, eq-eqb}
 use lib.ListN.{length, length-append, replicate, length-replicate}
 use lib.Seq.{sets, length-sets}
 use Rattle.format.specs.Format.{Format, number, code, ucs2, _&_, Value, encode, size, concatMap, All, Valid}
+use Rattle.format.specs.Fault.{limit}
 use Rattle.format.proofs.Faults.{valid-no-zero, valid-not-long, valid-fits}
 use Rattle.format.proofs.Lists.{all-append, all-of-map}
 use Rattle.format.proofs.Width.{size-is-length}
-use Rattle.protocol.specs.Layer.{headerLength, limit}
+use Rattle.protocol.specs.Layer.{headerLength}
 use Rattle.protocol.specs.Kind.{Kind, index, layer, bodyOf, sameKind, identifierFormat, fixtureDataFormat, fixtureHead, fixtureFormat, laserPointFormat}
 use Rattle.protocol.specs.Kind.{FixtureList, LaserFeedList, LaserFeedFrame}
 use Rattle.protocol.specs.Message.{Message, headersOf, packetSize, Sendable}

@@ -12,8 +12,8 @@ use Rattle.format.proofs.Width.{size-is-length}
 use Rattle.format.specs.View.{view, placed}
 use Rattle.format.proofs.Look.{holds}
 use Rattle.format.specs.Walk.{reports}
+use Rattle.format.specs.Fault.{limit}
 use Rattle.protocol.specs.Kind.{bodyOf}
-use Rattle.protocol.specs.Layer.{limit}
 use Rattle.protocol.specs.Message.{Message, headersOf, packetSize, packet, raised}
 use Rattle.stream.specs.Packets.{message, stream}
 use Rattle.stream.specs.Claims as claims

@@ -14,7 +14,8 @@ use Rattle.format.proofs.Codec.{encode-bytes, bytes-append}
 use Rattle.format.proofs.Width.{decode-behind, size-is-width}
 use Rattle.format.proofs.Passing.{There, plain-there}
 use Rattle.format.specs.Walk.{Step, stop, report}
-use Rattle.protocol.specs.Layer.{Layer, headerLength, header, layerHeader, limit}
+use Rattle.format.specs.Fault.{limit}
+use Rattle.protocol.specs.Layer.{Layer, headerLength, header, layerHeader}
 use Rattle.protocol.specs.Kind.{Kind, layer, contentType, bodyOf, kindOf, isRead}
 use Rattle.protocol.specs.Step.{stepRest, stepAt}
 use Rattle.protocol.specs.Message.{Message, headerOf, headersOf, packetSize, raised}

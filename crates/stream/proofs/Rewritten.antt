@@ -14,7 +14,8 @@ use Rattle.format.proofs.Codec.{read-back, bytes-behind}
 use Rattle.format.proofs.Width.{size-is-length, rest-is-drop}
 use Rattle.format.specs.View.{View, view, placed}
 use Rattle.format.specs.Walk.{Step, stop, report}
-use Rattle.protocol.specs.Layer.{Layer, PINF, SDMX, FPTC, FSEL, FINF, CAEX, cookie, headerLength, hintLength, layerOf, header, layerHeader, citp, limit, cookieField, majorField, requestField, sizeField, countField, partField, layerField}
+use Rattle.format.specs.Fault.{limit}
+use Rattle.protocol.specs.Layer.{Layer, PINF, SDMX, FPTC, FSEL, FINF, CAEX, cookie, headerLength, hintLength, layerOf, header, layerHeader, citp, cookieField, majorField, requestField, sizeField, countField, partField, layerField}
 use Rattle.protocol.specs.Kind.{Kind, layer, contentType, bodyOf, kindOf, isRead}
 use Rattle.protocol.specs.Step.{Content, message, unknown, fragment, refusal, Report, bodySeen, bodyAs, readBody, contentOf, readLayerHeader, readLayer, contentAt, stepAt, looked}
 use Rattle.protocol.specs.Message.{Message, headerOf, headersOf, packetSize, packet, Sendable, raised}

@@ -8,8 +8,9 @@ use lib.ListN.{length, drop}
 use Rattle.format.specs.Format.{Value, All}
 use Rattle.format.specs.View.{View, place}
 use Rattle.format.specs.Walk.{stop, report, Walked, reports, keep}
+use Rattle.format.specs.Fault.{limit}
 use Rattle.format.proofs.Walks.{walk-packets, keep-reports, map-reports}
-use Rattle.protocol.specs.Layer.{headerLength, hinted, limit, requestField, layerField, partField, countField, cookie}
+use Rattle.protocol.specs.Layer.{headerLength, hinted, requestField, layerField, partField, countField, cookie}
 use Rattle.protocol.specs.Kind.{layer, bodyOf}
 use Rattle.protocol.specs.Step as reported
 use Rattle.protocol.specs.Step.{Report, stepRest, stepAt, walk, looked}

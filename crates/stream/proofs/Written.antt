@@ -8,10 +8,10 @@ use native.Mathlib.Nat.{suc-ne-zero}
 use lib.ListN.{length, take, drop, length-append, take-append-drop}
 use lib.Seq.{sets, sets-eq, length-sets, length-take-le, take-at}
 use Rattle.format.specs.Format.{number, encode, concatMap, All}
+use Rattle.format.specs.Fault.{limit}
 use Rattle.format.proofs.Width.{size-is-length}
 use Rattle.format.proofs.Lists.{concatMap-append, concatMap-map, all-append, all-map}
 use Rattle.protocol.specs.Kind.{bodyOf}
-use Rattle.protocol.specs.Layer.{limit}
 use Rattle.protocol.specs.Message.{Message, headersOf, packetSize, packet, Sendable}
 use Rattle.protocol.proofs.Headers.{length-headers, size-stored, size-read}
 use Rattle.writing.specs.Call.{Call, opens, give, closes, Typed, bytesOf, zeroIn, tooLongIn, partBytes, partsOf, callsOf}

@@ -6,7 +6,8 @@ use mathlib.Core.List.{List, [], _∷_}
 use mathlib.Core.Option.{Option, none, some}
 use lib.ListN.{length}
 use Rattle.format.specs.Format.{Format, Value, concatMap}
-use Rattle.protocol.specs.Layer.{Layer, cookie, headerLength, hinted, header, limit, requestField, countField, partField, layerField}
+use Rattle.format.specs.Fault.{limit}
+use Rattle.protocol.specs.Layer.{Layer, cookie, headerLength, hinted, header, requestField, countField, partField, layerField}
 use Rattle.protocol.specs.Kind.{layer, isRead}
 use Rattle.protocol.specs.Step as reported
 use Rattle.protocol.specs.Step.{Content, Report}

@@ -7,10 +7,10 @@ use native.Mathlib.Omega.{arith}
 use borrow.Author.Tests.{le-ltb}
 use lib.ListN.{length, length-append}
 use Rattle.format.specs.Format.{Format, Value, number, _&_, encode, encodeNumber, size}
-use Rattle.format.specs.Fault.{weighed, holdsZero, tooLong}
+use Rattle.format.specs.Fault.{weighed, holdsZero, tooLong, limit}
 use Rattle.protocol.specs.Layer.{Layer, PINF, SDMX, FPTC, FSEL, FINF, CAEX, cookie, headerLength, hasHint, hintLength, header, layerHeader, citp}
 use Rattle.protocol.specs.Message.{headerOf}
-use Rattle.put.specs.Put.{Writes, Weighs, limit, putAt, putJudged}
+use Rattle.put.specs.Put.{Writes, Weighs, putAt, putJudged}
 use Rattle.put.specs.declared.Put.{Put}
 use Rattle.put.proofs.Writing.{put-nil, put-pair, put-as}
 use Rattle.put.proofs.Weighing.{passed}
@@ -70,7 +70,7 @@ module _ {n len i j t u : ℕ} {l m : Layer} (f : _≡_ {A = ℕ × (Layer × �
   headers-refused request hint {out} w z = refused (headers-weighed (headerOf m 0 request, (u, hint)) out w) z
 
 -- a write is taken where a longer one would be
-within : (x y room : ℕ) → x ≤ y → weighed limit false false y room ≡ 0 → weighed limit false false x room ≡ 0
+within : (x y room : ℕ) → x ≤ y → weighed false false y room ≡ 0 → weighed false false x room ≡ 0
 within x y room h e =
     let p = passed false false y room e in
     rw (le-ltb limit x (omega (arith, p .within)), le-ltb room x (omega (arith, p .has-room))) refl
@@ -79,7 +79,7 @@ first-written : {n at : ℕ} {f g : Format} {a : Value f} {b : Value g} {out aft
     → Weighed n false false (f & g) (a, b) at out → n ≡ 0 → _≡_ {A = Put × List ℕ} (p, after) (putJudged false false f a at out) → Writes f a at out (p .at) after
 unfolding encode
 first-written {n} {at} {f} {g} {a} {b} {out} {after} {p} w z e =
-    let none : weighed limit false false (at + length (encode (f & g) (a, b))) (length out) ≡ 0 = sym (w .weighed-as) ∙ z in
+    let none : weighed false false (at + length (encode (f & g) (a, b))) (length out) ≡ 0 = sym (w .weighed-as) ∙ z in
     let longer : at + length (encode f a) ≤ at + length (encode (f & g) (a, b)) = omega (arith, length-append (encode f a) (encode g b)) in
     let fits = within (at + length (encode f a)) (at + length (encode (f & g) (a, b))) (length out) longer none in
     let moved = answer-moved false false f a at out e (answer-number false false f a at out e ∙ fits) in

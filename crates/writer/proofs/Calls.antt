@@ -9,13 +9,13 @@ use lib.ListN.{length}
 use lib.Seq.{sets}
 use lib.Dec.{leb}
 use Rattle.format.specs.Format.{Format, Value, number, _&_, encode}
-use Rattle.format.specs.Fault.{holdsZero, tooLong, weighed}
+use Rattle.format.specs.Fault.{holdsZero, tooLong, weighed, limit}
 use Rattle.protocol.specs.Layer.{header, layerHeader}
 use Rattle.protocol.specs.Kind.{Kind, ChLs, layer, contentType, bodyOf}
 use Rattle.protocol.specs.Message.{headerOf, headersOf}
 use Rattle.writing.specs.Call.{Part, Layout, plain, counted, layoutOf, layoutZero, layoutLong, layoutBytes, Call, opens, give, closes, body, bytesOf, zeroIn, tooLongIn}
 use Rattle.writing.specs.Writer.{Turn, idle, bodyDue, Writer, isIdle, isClose, behindHeaders, partInTurn, inTurn, nextPart, nextTurn, startOf, stored, settled, apply}
-use Rattle.put.specs.Put.{limit, Weighs, Writes, putJudged, putAt}
+use Rattle.put.specs.Put.{Weighs, Writes, putJudged, putAt}
 use Rattle.put.specs.declared.Put.{Put}
 use Rattle.put.proofs.Bodies.{answer-number, answer-moved, answer-kept}
 use Rattle.put.proofs.Weighing.{passed}
@@ -35,7 +35,7 @@ out-of-turn c w {o = o} e f m = rw (m .0, m .1) (refused-14 c w o (sym e ∙ f))
 
 -- what a write of bytes at a place answers
 record Answered (zeros long : Bool) (bytes : List ℕ) (at : ℕ) (o : List ℕ) (p : Put) (after : List ℕ) : Type 0 where
-  weighed-as : p .number ≡ weighed limit zeros long (at + length bytes) (length o)
+  weighed-as : p .number ≡ weighed zeros long (at + length bytes) (length o)
   moved : p .number ≡ 0 → _≡_ {A = Put × List ℕ} (p, after) (record { number = 0; at = at + length bytes }, sets o at bytes)
   kept : (p .number ≡ 0 → ⊥) → _≡_ {A = Put × List ℕ} (p, after) (record { number = p .number; at = at }, o)
 
@@ -101,7 +101,7 @@ opened k request hint w o e f a s = rw (s .0, s .1) (wrote (opens k request hint
 -- ---- close
 
 close-settled : (w : Writer) (o : List ℕ) (n : ℕ) → (isClose (w .turn) && behindHeaders (w .turn) (w .at)) ≡ true
-    → n ≡ weighed limit false false (w .at + 0) (length o) → settled n closes w o ≡ apply closes w o
+    → n ≡ weighed false false (w .at + 0) (length o) → settled n closes w o ≡ apply closes w o
 unfolding apply
 close-settled w o n due e = rw (due, ← e) refl
 

@@ -3,8 +3,8 @@ use Prim.Native.Nat.{ℕ, zero, suc, _+_}
 use mathlib.Core.Bool.{Bool, _&&_}
 use mathlib.Core.List.{List}
 use Rattle.format.specs.Format.{pick}
+use Rattle.format.specs.Fault.{limit}
 use Rattle.protocol.specs.Kind.{ChLs}
-use Rattle.put.specs.Put.{limit}
 use Rattle.put.specs.declared.Put.{Put}
 use Rattle.writing.specs.Writer as writing
 use Rattle.writing.specs.Writer.{Outcome}

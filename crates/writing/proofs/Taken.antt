@@ -10,8 +10,8 @@ use borrow.Author.Tests.{ltb-false, le-ltb}
 use lib.ListN.{length}
 use lib.Dec.{ltb}
 use Rattle.format.specs.Format.{pick}
+use Rattle.format.specs.Fault.{limit}
 use Rattle.format.proofs.Bools.{both}
-use Rattle.protocol.specs.Layer.{limit}
 use Rattle.writing.specs.Call.{Call, zeroIn, tooLongIn}
 use Rattle.writing.specs.Writer.{Writer, Outcome, inTurn, behindHeaders, endOf, weigh, settled, numberOf, apply}
 

@@ -7,7 +7,7 @@ use lib.Seq.{sets}
 use lib.Dec.{eqb, leb, ltb}
 use Rattle.format.specs.Format.{number, pick, encode}
 use Rattle.format.specs.Fault.{weighed}
-use Rattle.protocol.specs.Layer.{headerLength, limit}
+use Rattle.protocol.specs.Layer.{headerLength}
 use Rattle.protocol.specs.Kind.{Kind, layer, sameKind, FixtureList, LaserFeedList, LaserFeedFrame}
 use Rattle.writing.specs.Call.{Part, body, laserFeedList, feedName, laserFeedFrame, laserPoint, fixtureList, fixture, identifier, fixtureData}
 use Rattle.writing.specs.Call.{Call, opens, give, closes, bytesOf, zeroIn, tooLongIn}
@@ -141,7 +141,7 @@ stored closes at o = sets o 8 (encode (number 4) at)
 
 -- the number of a call: 14 out of turn, then 11, 12, 15, 13; or 0
 abbrev pub weigh : (due zeros long : Bool) (end room : ℕ) → ℕ
-weigh due zeros long end room = pick due (weighed limit zeros long end room) 14
+weigh due zeros long end room = pick due (weighed zeros long end room) 14
 
 -- what a call leaves: its number, the state and the output
 pub record Outcome : Type 0 where
