@@ -24,7 +24,8 @@ enum Job {
     Refusals,
 }
 
-/// In a long run the cuts of a long body of every kind; the short bodies of every kind; then for each kind in turn as many rounds as so many bodies need.
+/// In a long run the cuts of a long body of every kind; the short bodies of every kind; then for each kind in turn, and
+/// the laser feeds, as many rounds as so many bodies need, at least one.
 fn jobs(bodies: u64) -> Vec<Job> {
     let mut jobs = vec![Job::Refusals];
     if bodies >= LONG_RUN {
@@ -32,7 +33,7 @@ fn jobs(bodies: u64) -> Vec<Job> {
     }
     jobs.extend((0..KINDS.len()).map(Job::Short));
     let short = KINDS.len() as u64 * SHORT_BODIES;
-    let rounds = bodies.saturating_sub(short).div_ceil(JOB * KINDS.len() as u64);
+    let rounds = bodies.saturating_sub(short).div_ceil(JOB * KINDS.len() as u64).max(1);
     for round in 0..rounds {
         jobs.extend((0..KINDS.len()).map(|kind| Job::Rounds(kind, round)));
         jobs.push(Job::Values(round));
