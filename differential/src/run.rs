@@ -21,13 +21,14 @@ enum Job {
     Cuts(usize),
     Rounds(usize, u64),
     Values(u64),
+    Sizes,
     Refusals,
 }
 
 /// In a long run the cuts of a long body of every kind; the short bodies of every kind; then for each kind in turn, and
 /// the laser feeds, as many rounds as so many bodies need, at least one.
 fn jobs(bodies: u64) -> Vec<Job> {
-    let mut jobs = vec![Job::Refusals];
+    let mut jobs = vec![Job::Refusals, Job::Sizes];
     if bodies >= LONG_RUN {
         jobs.extend((0..KINDS.len()).map(Job::Cuts));
     }
@@ -57,12 +58,13 @@ fn work(jobs: &[Job], next: &AtomicUsize, results: &Mutex<Results>) {
                 (KINDS[kind].rounds)(&mut Random::of(SEED, KINDS[kind].name, number), JOB, &mut tally)
             }
             Job::Values(number) => values::laser_feeds(&mut Random::of(SEED, "laser feeds", number), &mut tally),
+            Job::Sizes => values::large_sizes(&mut tally),
             Job::Refusals => refusals::compare(&mut tally),
         }
         let mut results = results.lock().expect("no thread panics with the lock");
         match *job {
             Job::Short(kind) | Job::Cuts(kind) | Job::Rounds(kind, _) => results.kinds[kind].add(tally),
-            Job::Values(_) => results.values.add(tally),
+            Job::Values(_) | Job::Sizes => results.values.add(tally),
             Job::Refusals => results.refusals.add(tally),
         }
     }
@@ -74,8 +76,9 @@ fn show_counts(results: &Results) {
         println!("{}", tally.line(kind.name));
     }
     println!(
-        "laser feeds (written only): {} values written, {} differ",
+        "laser feeds (written only): {} values written; sizes around the largest packet: {}; {} differ",
         results.values.written,
+        results.values.sized,
         results.values.differ()
     );
     let calls: Vec<String> = (9..16).map(|number| format!("{number}: {}", results.refusals.numbers[number])).collect();

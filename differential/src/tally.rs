@@ -14,6 +14,8 @@ pub struct Tally {
     pub numbers: [u64; 16],
     /// Values that were written by both.
     pub written: u64,
+    /// Values of which only the sizes were compared.
+    pub sized: u64,
     pub differences: BTreeMap<&'static str, Difference>,
 }
 
@@ -51,6 +53,7 @@ impl Tally {
     pub fn add(&mut self, other: Tally) {
         self.bodies += other.bodies;
         self.written += other.written;
+        self.sized += other.sized;
         self.numbers.iter_mut().zip(other.numbers).for_each(|(sum, n)| *sum += n);
         for (what, found) in other.differences {
             self.put(what, found.count, &found.input, || found.detail.clone());

@@ -1,11 +1,13 @@
-//! Laser feeds, which are written only.
+//! Laser feeds, which are written only, and sizes past the largest packet.
 use crate::canon::{ucs2_of, written};
 use crate::given::Given;
 use crate::random::Random;
 use crate::tally::Tally;
-use crate::writing::Writes;
-use citp::protocol::caex::{LaserFeedFrame, LaserFeedList, LaserPoint};
+use crate::writing::{compare_size, Writes};
+use citp::protocol::caex::{EnterShow, LaserFeedFrame, LaserFeedList, LaserPoint};
+use citp::protocol::pinf::{PLoc, PNam};
 use std::borrow::Cow;
+use std::ffi::CString;
 
 const EACH: usize = 2_000;
 
@@ -66,5 +68,22 @@ pub fn laser_feeds(random: &mut Random, tally: &mut Tally) {
     for _ in 0..EACH {
         compare(list(random), tally);
         compare(frame(random), tally);
+    }
+}
+
+fn compare_large<T: Given>(value: &T, tally: &mut Tally) {
+    tally.sized += 1;
+    if let Err(what) = compare_size(value, written(value).len()) {
+        tally.differs(what, &[], || "a size at or past the largest packet's".to_string());
+    }
+}
+
+/// Bodies around the largest packet's size and well past it: a size has no limit of a packet's.
+pub fn large_sizes(tally: &mut Tally) {
+    for len in [16_777_190, 16_777_215, 16_777_216, 16_777_217, 50_331_648] {
+        let name = || CString::new(vec![b'A'; len]).expect("no zero");
+        compare_large(&PNam { name: name() }, tally);
+        compare_large(&PLoc { listening_tcp_port: 1, kind: name(), name: name(), state: name() }, tally);
+        compare_large(&EnterShow { name: ucs2_of(&vec![0x41; len]) }, tally);
     }
 }

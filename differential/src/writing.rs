@@ -35,7 +35,8 @@ pub trait Writes {
 /// The kinds whose `size_bytes` is not the length written (docs/DIFFERENCES.md 18, 19).
 const OTHER_SIZES: [u8; 3] = [library::UPTC, library::SPTC, library::CHLS];
 
-fn compare_size<T: Given>(value: &T, written: usize) -> Result<(), &'static str> {
+/// Our size beside the Rust's.
+pub fn compare_size<T: Given>(value: &T, written: usize) -> Result<(), &'static str> {
     let due = if OTHER_SIZES.contains(&T::KIND) { written } else { value.size_bytes() };
     match value.size() {
         Some(size) if size != due => Err("size_bytes"),
