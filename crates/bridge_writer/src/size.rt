@@ -72,7 +72,7 @@ pub extern "C" fn citp_chbk_size(channel_levels: &[u8]) -> usize
     ChBk::size_bytes(channel_levels)
 }
 
-// A function over a slice of structs is proved by hand: it only makes a call.
+// Of so many records, whatever they hold.
 #[no_mangle]
 pub extern "C" fn citp_chls_size(count: usize) -> usize
     ensures { λ r. ⌜ r ≡ capped (size chls (replicate count (0, (0, 0)))) ⌝ }

@@ -6,10 +6,10 @@ use mathlib.Core.List.{List, [], _∷_, _++_, map, append-assoc, append-nil}
 use native.Mathlib.Nat.{add-zero, not-suc-le-zero, le-of-suc-le-suc, le-of-lt}
 use native.Mathlib.Numerals.{add-one}
 use native.Mathlib.Omega.{arith}
-use lib.ListN.{length, take, getD, set, replicate, length-append, length-map}
+use lib.ListN.{length, take, getD, set, replicate, length-append, length-map, length-replicate}
 use lib.Seq.{sets, length-sets, take-length, length-take-le}
 use lib.Dec.{leb}
-use Rattle.format.specs.Format.{number, encode, encodeNumber, concatMap, size, total}
+use Rattle.format.specs.Format.{Value, number, encode, encodeNumber, concatMap, size, total}
 use Rattle.format.specs.Fault.{holdsZero, tooLong, limit}
 use Rattle.format.proofs.Faults.{any-never}
 use Rattle.protocol.specs.Kind.{channelLevelFormat}
@@ -73,17 +73,21 @@ upto at ls i out = byNumber (numberOf at (length ls) (length out)) (sets out at 
 
 -- ---- what the functions over numbers come to
 
-total-of : (n : ℕ) → total (size channelLevelFormat) (replicate n (0, (0, 0))) ≡ 4 * n
+total-is : (xs : List (Value channelLevelFormat)) → total (size channelLevelFormat) xs ≡ 4 * length xs
 unfolding total size
-total-of zero = refl
-total-of (suc n) = rw (total-of n) (omega arith)
+total-is [] = refl
+total-is (x ∷ xs) = rw (total-is xs) (omega arith)
 
--- the size of a list of so many records
-pub size-of : (count : ℕ) → size chls (replicate count (0, (0, 0))) ≡ 2 + 4 * count
+-- a list's size goes by the count of its records, whatever they hold
+pub levels-size : (xs : List (Value channelLevelFormat)) → size chls xs ≡ 2 + 4 * length xs
 unfolding size
-size-of count = rw (total-of count) refl
+levels-size xs = rw (total-is xs) refl
 
-pub number-is : {n len : ℕ} (at count room : ℕ) → Weighs n false (leb 65536 count) at len room → len ≡ capped (size chls (replicate count (0, (0, 0)))) → n ≡ numberOf at count room
+pub size-of : (count : ℕ) → size chls (replicate count (0, (0, 0))) ≡ 2 + 4 * count
+size-of count = levels-size (replicate count (0, (0, 0))) ∙ ap (λ (n : ℕ). 2 + 4 * n) (length-replicate count (0, (0, 0)))
+
+pub number-is : {n len : ℕ} (at count room : ℕ) → Weighs n false (leb 65536 count) at len room → len ≡ capped (size chls (replicate count (0, (0, 0))))
+    → n ≡ numberOf at count room
 unfolding numberOf
 number-is at count room w e = rw (e, size-of count) at (w .weighs) ∙ weighed-capped false (leb 65536 count) at (2 + 4 * count) room
 
@@ -108,7 +112,8 @@ module _ {n : ℕ} (at count : ℕ) where
   unfolding due begun
   begin-refused out e h = rw (← e) (sym (by-refused _ _ _ h), sym (by-refused _ _ _ h))
 
-  pub finish-taken : {len place : ℕ} (room : ℕ) → n ≡ numberOf at count room → n ≡ 0 → len ≡ capped (size chls (replicate count (0, (0, 0)))) → place ≡ capped (at + len)
+  pub finish-taken : {len place : ℕ} (room : ℕ) → n ≡ numberOf at count room → n ≡ 0 → len ≡ capped (size chls (replicate count (0, (0, 0))))
+      → place ≡ capped (at + len)
       → _≡_ {A = Put} (record { number = 0; at = place }) (answerOf at count room)
   unfolding answerOf
   finish-taken {len} {place} room e z l p =

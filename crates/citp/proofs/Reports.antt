@@ -32,7 +32,8 @@ module _ (l : Layer) (start extent type hint : ℕ) {b : Body View} where
   told-refusal p = rw p
 
 -- where a layer has no hint, it makes no difference
-no-hint : (l : Layer) → hasHint l ≡ false → (start extent type hint : ℕ) (b : Body View) → contentOf l start extent type 0 b ≡ contentOf l start extent type hint b
+no-hint : (l : Layer) → hasHint l ≡ false → (start extent type hint : ℕ) (b : Body View)
+    → contentOf l start extent type 0 b ≡ contentOf l start extent type hint b
 no-hint l e start extent type hint (known k v taken) = rw e
 no-hint l e start extent type hint unread = refl
 no-hint l e start extent type hint (refusedWith n) = refl

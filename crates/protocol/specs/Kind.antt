@@ -25,11 +25,11 @@ fixtureDataFormat =
 abbrev fixtureWith : Format → Format
 fixtureWith f = number 4 & ucs2 & ucs2 & ucs2 & number 2 & f
 
--- a fixture up to its identifiers: is_dimmer
+-- a fixture up to its identifiers: those fields and is_dimmer
 abbrev pub fixtureHead : Format
 fixtureHead = fixtureWith (number 1)
 
--- a whole one: is_dimmer, identifiers, data
+-- a whole one: those fields, is_dimmer, identifiers, data
 abbrev pub fixtureFormat : Format
 fixtureFormat = fixtureWith (number 1 & list 1 identifierFormat & fixtureDataFormat)
 

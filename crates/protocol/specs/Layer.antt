@@ -36,7 +36,7 @@ headerLength l = layerFigures l .headerLength
 abbrev pub hasHint : Layer → Bool
 hasHint l = ltb 24 (headerLength l)
 
--- its bytes
+-- the bytes of the content hint
 abbrev pub hintLength : Layer → ℕ
 hintLength l = pick (hasHint l) 4 0
 

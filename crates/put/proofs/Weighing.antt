@@ -8,14 +8,14 @@ use borrow.Author.Tests.{lt-ltb, ltb-false}
 use lib.Dec.{ltb}
 use Rattle.format.specs.Format.{pick}
 use Rattle.format.specs.Fault.{weighed, limit}
-use Rattle.put.specs.Put.{most, capped, Weighs}
+use Rattle.put.specs.Put.{usizeMax, capped, Weighs}
 use Rattle.put.proofs.Writing.{split}
 
 weighed-past : (zeros long : Bool) (x y room : ℕ) → limit < x → limit < y → weighed zeros long x room ≡ weighed zeros long y room
 weighed-past zeros long x y room h k = rw (lt-ltb limit x h, lt-ltb limit y k) refl
 
 pub weighed-capped : (zeros long : Bool) (at x room : ℕ) → weighed zeros long (at + capped x) room ≡ weighed zeros long (at + x) room
-weighed-capped zeros long at x room = split x most
+weighed-capped zeros long at x room = split x usizeMax
     (λ h. rw (min-eq-left h) refl)
     (λ h. weighed-past zeros long (at + capped x) (at + x) room (omega arith) (omega arith))
 

@@ -19,13 +19,13 @@ pub record Puts (bytes : List ℕ) (at : ℕ) (before : List ℕ) (place : ℕ) 
 pub record Writes (f : Format) (v : Value f) (at : ℕ) (before : List ℕ) (place : ℕ) (after : List ℕ) : Type 0 where
   pub writes : Puts (encode f v) at before place after
 
--- usize::MAX
-abbrev pub most : ℕ
-most = 18446744073709551615
+-- the largest usize
+abbrev pub usizeMax : ℕ
+usizeMax = 18446744073709551615
 
 -- a number of bytes, at most usize::MAX, which no memory holds: no sum of the code wraps
 abbrev pub capped : ℕ → ℕ
-capped n = min n most
+capped n = min n usizeMax
 
 -- the number of a write of len bytes at a place of an output of room bytes
 pub record Weighs (number : ℕ) (zeros long : Bool) (at len room : ℕ) : Type 0 where

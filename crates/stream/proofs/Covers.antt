@@ -47,7 +47,14 @@ has-layer-header l s h = plain-there (layerHeader l) (tt, tt) (drop 20 s) (omega
 
 pub valid-message : (h : Value header) (accepted added : List ℕ) → ValidPacket h (raised accepted added) → length accepted + length added ≤ limit
 valid-message h accepted added v =
-    omega (arith, v .sized, valid-starts h (raised accepted added) v .most, length-sets (accepted ++ added) 8 (encode (number 4) (length accepted + length added)), length-append accepted added)
+    omega (
+      arith,
+      v .sized,
+      valid-starts h (raised accepted added) v .most,
+      length-sets (accepted ++ added) 8 (encode (number 4)
+          (length accepted + length added)),
+      length-append accepted added,
+    )
 
 -- ---- what was accepted of a kind that the reader doesn't know
 

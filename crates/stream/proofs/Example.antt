@@ -6,7 +6,7 @@ use mathlib.Core.List.{List, [], _∷_, map}
 use mathlib.Core.Option.{none}
 use native.Mathlib.Omega.{arith}
 use Rattle.format.specs.Format.{Value, decodeNumber, decode, encodeNumber, encode, decodeItems, decodeUcs2, size, total}
-use Rattle.format.specs.Fault.{any, holdsZero, tooLong}
+use Rattle.format.specs.Fault.{any, holdsZero, tooLong, limit}
 use Rattle.format.specs.View.{seen, view, placed, place, look, steps, stepped, unitsOf}
 use Rattle.format.specs.Walk.{Step, stop, report, reports}
 use Rattle.protocol.specs.Layer.{header}
@@ -107,7 +107,7 @@ pub told : map (looked (stream packets)) (walk (stream packets) .0)
     ≡ record { offset = 0; size = 21; request = 0; content = reported.fragment 1 2 }
     ∷ record { offset = 21; size = 28; request = 7; content = reported.message UNam 45 none (3, 0x41 ∷ []) 1 } ∷ []
 unfolding reports
-told = let few : 28 ≤ 16777216 = omega arith in walked packets (part-admissible, ((name-accepted, refl, few), tt)) .walked
+told = let few : 28 ≤ limit = omega arith in walked packets (part-admissible, ((name-accepted, refl, few), tt)) .walked
 
 -- ---- a fixture list of one fixture with two identifiers and a NaN among its floats, found again by stepping
 

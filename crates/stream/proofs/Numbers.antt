@@ -17,7 +17,8 @@ use Rattle.protocol.specs.Layer.{Layer, headerLength, layerOf, header, layerHea
 use Rattle.protocol.specs.Kind.{Kind, bodyOf, kindOf, sameKind}
 use Rattle.protocol.specs.Kind.{FixtureList}
 use Rattle.protocol.proofs.Every.{every, every-kind}
-use Rattle.protocol.specs.Step.{Content, message, unknown, fragment, refusal, Report, bodySeen, bodyAs, readBody, contentOf, readLayerHeader, readLayer, contentAt, stepAt, walk}
+use Rattle.protocol.specs.Step.{Content, message, unknown, fragment, refusal, Report, bodySeen, bodyAs, readBody, contentOf, readLayerHeader, readLayer}
+use Rattle.protocol.specs.Step.{contentAt, stepAt, walk}
 use Rattle.protocol.proofs.Steps.{Does, halts, tells, step-does, stopped, reported}
 use Rattle.writing.proofs.Taken.{call-numbers as one-call}
 use Rattle.stream.specs.Claims as claims

@@ -15,9 +15,11 @@ use Rattle.format.proofs.Width.{size-is-length, rest-is-drop}
 use Rattle.format.specs.View.{View, view, placed}
 use Rattle.format.specs.Walk.{Step, stop, report}
 use Rattle.format.specs.Fault.{limit}
-use Rattle.protocol.specs.Layer.{Layer, PINF, SDMX, FPTC, FSEL, FINF, CAEX, cookie, headerLength, hintLength, layerOf, header, layerHeader, citp, cookieField, majorField, requestField, sizeField, countField, partField, layerField}
+use Rattle.protocol.specs.Layer.{Layer, PINF, SDMX, FPTC, FSEL, FINF, CAEX, cookie, headerLength, hintLength, layerOf, header, layerHeader, citp, cookieField}
+use Rattle.protocol.specs.Layer.{majorField, requestField, sizeField, countField, partField, layerField}
 use Rattle.protocol.specs.Kind.{Kind, layer, contentType, bodyOf, kindOf, isRead}
-use Rattle.protocol.specs.Step.{Content, message, unknown, fragment, refusal, Report, bodySeen, bodyAs, readBody, contentOf, readLayerHeader, readLayer, contentAt, stepAt, looked}
+use Rattle.protocol.specs.Step.{Content, message, unknown, fragment, refusal, Report, bodySeen, bodyAs, readBody, contentOf, readLayerHeader, readLayer}
+use Rattle.protocol.specs.Step.{contentAt, stepAt, looked}
 use Rattle.protocol.specs.Message.{Message, headerOf, headersOf, packetSize, packet, Sendable, raised}
 use Rattle.protocol.proofs.Headers.{header-length, length-header, length-layer}
 use Rattle.protocol.proofs.Lookup.{layer-known, Known, kind-known}
