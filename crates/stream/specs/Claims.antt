@@ -126,7 +126,7 @@ pub record Told (ps : List Packet) : Type 0 where
   pub ended : walk (stream ps) .1 ≡ some (0, length (stream ps))
   pub struck : (qs : List Packet) → Struck ps qs → Alike ps qs
 
--- told (Walked)
+-- walked (Walked): of every list of admissible packets laid end to end
 abbrev pub Walked : Type 0
 Walked = (ps : List Packet) → All Admissible ps → Told ps
 
