@@ -14,8 +14,8 @@
  *    6        known layer, packet shorter than its headers
  *    7        body ends where a number or a byte of a block is due
  *    8        body ends before a string's zero byte or zero unit
- *    9        FixtureListMessageType above 2
- *    10       IdentifierType above 5
+ *    9        FixtureListMessageType above 2; a call that writes one tests it first
+ *    10       IdentifierType above 5; a call that writes one tests it first
  *    11       a string to be written holds a zero byte or unit
  *    12       a list or block is too long for its count field
  *    13       the lent output is shorter than the place after the call, or than the string
@@ -60,9 +60,13 @@ extern "C" {
 #define CITP_LASER_FEED_LIST 18
 #define CITP_LASER_FEED_FRAME 19
 
-/* ---- the walk */
+/* The kinds' names, by number: `const char *const names[] = {CITP_KIND_NAMES};` is an array of them. */
+#define CITP_KIND_NAMES                                                                                               \
+    "EnterShow", "FixtureList", "FixtureRemove", "LaserFeedControl", "Capa", "UNam", "ChBk", "ChLs", "Sxus", "Ptch",  \
+        "UPtc", "SPtc", "Sele", "DeSe", "SFra", "Fram", "PNam", "PLoc", "LaserFeedList", "LaserFeedFrame"
 
-/* What a packet holds. */
+/* ---- the walk; its report says what a packet holds */
+
 #define CITP_END 0           /* no packet: the walk ended */
 #define CITP_MESSAGE 1       /* kind, body_start, body_len, added; in FPTC content_hint */
 #define CITP_UNKNOWN_LAYER 2 /* layer */
@@ -83,8 +87,7 @@ typedef struct {
     uint32_t content_hint;
     size_t offset; /* of the packet, or of the end */
     size_t next;   /* where the next packet starts; at the end the offset again */
-    /* of a message: its body in the stream, added bytes included, as the kind's `citp_.._read` takes it */
-    size_t body_start;
+    size_t body_start; /* of a message: its body in the stream, added bytes included, as its `citp_.._read` takes it */
     size_t body_len;
     size_t added; /* bytes behind those that the body takes */
 } citp_step;
@@ -108,7 +111,7 @@ typedef struct {
     size_t taken;
 } citp_header;
 
-citp_header citp_header_read(const uint8_t *packet, size_t packet_len);
+citp_header citp_header_read(const uint8_t *body, size_t body_len); /* of a packet, from its first byte */
 
 /* The place behind what was written; of a refused call the place that was given. */
 typedef struct {
@@ -217,23 +220,23 @@ typedef struct {
     size_t state_len;
 } citp_ploc;
 
-citp_string_body citp_enter_show_read(const uint8_t *body, size_t body_len); /* Ucs2: name */
+citp_string_body citp_enter_show_read(const uint8_t *body, size_t body_len); /* a Ucs2 string: name */
 citp_fixture_list citp_fixture_list_read(const uint8_t *body, size_t body_len);
-citp_list_body citp_fixture_remove_read(const uint8_t *body, size_t body_len); /* u32: fixture_identifiers */
+citp_list_body citp_fixture_remove_read(const uint8_t *body, size_t body_len); /* a list of u32: fixture_identifiers */
 citp_laser_feed_control citp_laser_feed_control_read(const uint8_t *body, size_t body_len);
-citp_list_body citp_capa_read(const uint8_t *body, size_t body_len); /* u16: capabilities */
+citp_list_body citp_capa_read(const uint8_t *body, size_t body_len); /* a list of u16: capabilities */
 citp_universe_string citp_unam_read(const uint8_t *body, size_t body_len);
 citp_chbk citp_chbk_read(const uint8_t *body, size_t body_len);
-citp_list_body citp_chls_read(const uint8_t *body, size_t body_len); /* channel levels */
+citp_list_body citp_chls_read(const uint8_t *body, size_t body_len); /* a list of channel levels */
 citp_universe_string citp_sxus_read(const uint8_t *body, size_t body_len);
 citp_ptch citp_ptch_read(const uint8_t *body, size_t body_len);
-citp_list_body citp_uptc_read(const uint8_t *body, size_t body_len); /* u16: fixture_identifiers */
-citp_list_body citp_sptc_read(const uint8_t *body, size_t body_len); /* u16: fixture_identifiers */
+citp_list_body citp_uptc_read(const uint8_t *body, size_t body_len); /* a list of u16: fixture_identifiers */
+citp_list_body citp_sptc_read(const uint8_t *body, size_t body_len); /* a list of u16: fixture_identifiers */
 citp_sele citp_sele_read(const uint8_t *body, size_t body_len);
-citp_list_body citp_dese_read(const uint8_t *body, size_t body_len); /* u16: fixture_identifiers */
-citp_list_body citp_sfra_read(const uint8_t *body, size_t body_len); /* u16: fixture_identifiers */
+citp_list_body citp_dese_read(const uint8_t *body, size_t body_len); /* a list of u16: fixture_identifiers */
+citp_list_body citp_sfra_read(const uint8_t *body, size_t body_len); /* a list of u16: fixture_identifiers */
 citp_fram citp_fram_read(const uint8_t *body, size_t body_len);
-citp_string_body citp_pnam_read(const uint8_t *body, size_t body_len); /* CString: name */
+citp_string_body citp_pnam_read(const uint8_t *body, size_t body_len); /* a CString: name */
 citp_ploc citp_ploc_read(const uint8_t *body, size_t body_len);
 
 /* ---- lists stepped through: `given` is 1 with an item and the cursor behind it; else the list is done, or refused.
@@ -325,21 +328,21 @@ citp_channel_level_next citp_channel_levels_next(const uint8_t *body, size_t bod
 citp_fixture_next citp_fixtures_next(const uint8_t *body, size_t body_len, size_t at, uint16_t left);
 citp_identifier_next citp_identifiers_next(const uint8_t *body, size_t body_len, size_t at, uint8_t left);
 
-/* ---- strings and lists of numbers copied out of a body */
+/* ---- strings and lists of numbers copied out of a body: a string from its start up to the zero, which is not copied,
+ * a list whole */
 
 typedef struct {
     uint8_t number; /* 0; a string 8 or 13, a list 7 or 13 */
     size_t len;     /* bytes, units or items copied */
 } citp_copied;
 
-/* a string, from its start up to the zero, which is not copied */
 citp_copied citp_copy_cstring(const uint8_t *body, size_t body_len, size_t start, uint8_t *out, size_t out_len);
 citp_copied citp_copy_ucs2(const uint8_t *body, size_t body_len, size_t start, uint16_t *out, size_t out_len);
-/* the whole of a list at once */
 citp_copied citp_u16_list_copy(const uint8_t *body, size_t body_len, size_t at, uint16_t left, uint16_t *out, size_t out_len);
 citp_copied citp_u32_list_copy(const uint8_t *body, size_t body_len, size_t at, uint16_t left, uint32_t *out, size_t out_len);
 
-/* ---- sizes of bodies and of parts, at most SIZE_MAX; of a channel list by the count of its records */
+/* ---- sizes of bodies and of parts, at most the largest that the type has; of a channel list by the count of its
+ * records */
 
 size_t citp_enter_show_size(const uint16_t *name, size_t name_len);
 size_t citp_fixture_remove_size(const uint32_t *fixture_identifiers, size_t fixture_identifiers_len);
@@ -401,7 +404,6 @@ citp_put citp_pnam_write(uint8_t *out, size_t out_len, size_t at, const uint8_t 
 citp_put citp_ploc_write(uint8_t *out, size_t out_len, size_t at, uint16_t listening_tcp_port, const uint8_t *kind,
                          size_t kind_len, const uint8_t *name, size_t name_len, const uint8_t *state, size_t state_len);
 
-/* A message_type above 2 is refused with 9, an identifier_type above 5 with 10, before anything else is tested. */
 citp_put citp_fixture_list_write_head(uint8_t *out, size_t out_len, size_t at, uint8_t message_type,
                                       size_t fixture_count);
 citp_put citp_fixture_write_head(uint8_t *out, size_t out_len, size_t at, uint32_t fixture_identifier,
@@ -491,8 +493,7 @@ citp_written citp_writer_ploc(citp_writer w, uint8_t *out, size_t out_len, uint1
                               const uint8_t *kind, size_t kind_len, const uint8_t *name, size_t name_len,
                               const uint8_t *state, size_t state_len);
 
-/* A fixture list: its head, then for each fixture head, identifiers, data. A message_type above 2 is refused with 9, an
- * identifier_type above 5 with 10, before anything else is tested. */
+/* A fixture list: its head, then for each fixture head, identifiers, data. */
 citp_written citp_writer_fixture_list_head(citp_writer w, uint8_t *out, size_t out_len, uint8_t message_type,
                                            size_t fixture_count);
 citp_written citp_writer_fixture_head(citp_writer w, uint8_t *out, size_t out_len, uint32_t fixture_identifier,
@@ -506,11 +507,13 @@ citp_written citp_writer_fixture_data(citp_writer w, uint8_t *out, size_t out_le
                                       const uint16_t *unit, size_t unit_len, const uint16_t *circuit,
                                       size_t circuit_len, const uint16_t *note, size_t note_len);
 
-/* Laser feeds: a head, then names or points. */
+/* A laser feed list: its head, then the names. */
 citp_written citp_writer_laser_feed_list_head(citp_writer w, uint8_t *out, size_t out_len, uint32_t source_key,
                                               size_t feed_count);
 citp_written citp_writer_feed_name(citp_writer w, uint8_t *out, size_t out_len, const uint16_t *feed_name,
                                    size_t feed_name_len);
+
+/* A laser feed frame: its head, then the points. */
 citp_written citp_writer_laser_feed_frame_head(citp_writer w, uint8_t *out, size_t out_len, uint32_t source_key,
                                                uint8_t feed_index, uint32_t frame_sequence, size_t point_count);
 citp_written citp_writer_laser_point(citp_writer w, uint8_t *out, size_t out_len, uint8_t x_low_byte,

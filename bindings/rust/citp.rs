@@ -1,6 +1,46 @@
+//! Made by bindings/declarations out of include/citp.h.
+//!
 //! CITP packets for Rust: the functions of include/citp.h with slices, over the archive libcitp.a (x86-64 Linux).
-//! What each answers, the numbers of refusals, and what ranges and cursors mean is said there. Every function ends, checks its own
-//! input and keeps no state, so all of them are safe.
+//! What each answers, the numbers of refusals, and what ranges and cursors mean is said there. Every function ends,
+//! checks its own input and keeps no state, so all of them are safe.
+
+/// A function over slices from the one of the archive, to which a slice is a pointer and a length.
+macro_rules! function {
+    ($doc:tt $name:ident ($($args:tt)*) -> $answer:ty) => {
+        function!(@ $doc $name [] [] [] ($($args)*) $answer);
+    };
+    (@ $doc:tt $name:ident [$($safe:tt)*] [$($raw:tt)*] [$($pass:tt)*] ($arg:ident: &mut [$t:ty] $(, $($rest:tt)*)?) $answer:ty) => {
+        function!(@ $doc $name [$($safe)* $arg: &mut [$t],] [$($raw)* $arg: *mut $t, _: usize,]
+            [$($pass)* $arg.as_mut_ptr(), $arg.len(),] ($($($rest)*)?) $answer);
+    };
+    (@ $doc:tt $name:ident [$($safe:tt)*] [$($raw:tt)*] [$($pass:tt)*] ($arg:ident: &[$t:ty] $(, $($rest:tt)*)?) $answer:ty) => {
+        function!(@ $doc $name [$($safe)* $arg: &[$t],] [$($raw)* $arg: *const $t, _: usize,]
+            [$($pass)* $arg.as_ptr(), $arg.len(),] ($($($rest)*)?) $answer);
+    };
+    (@ $doc:tt $name:ident [$($safe:tt)*] [$($raw:tt)*] [$($pass:tt)*] ($arg:ident: $t:ty $(, $($rest:tt)*)?) $answer:ty) => {
+        function!(@ $doc $name [$($safe)* $arg: $t,] [$($raw)* $arg: $t,] [$($pass)* $arg,] ($($($rest)*)?) $answer);
+    };
+    (@ [$($doc:tt)*] $name:ident [$($safe:tt)*] [$($raw:tt)*] [$($pass:tt)*] () $answer:ty) => {
+        $($doc)*
+        #[allow(clippy::too_many_arguments)]
+        pub fn $name($($safe)*) -> $answer {
+            #[link(name = "citp", kind = "static")]
+            extern "C" {
+                #[link_name = concat!("citp_", stringify!($name))]
+                fn call($($raw)*) -> $answer;
+            }
+            unsafe { call($($pass)*) }
+        }
+    };
+}
+
+macro_rules! functions {
+    ($($(#[$doc:meta])* $name:ident $args:tt -> $answer:ty;)*) => {
+        $(function!([$(#[$doc])*] $name $args -> $answer);)*
+    };
+}
+
+// ---- kinds of message; the last two are written only
 
 pub const ENTER_SHOW: u8 = 0;
 pub const FIXTURE_LIST: u8 = 1;
@@ -22,36 +62,83 @@ pub const PNAM: u8 = 16;
 pub const PLOC: u8 = 17;
 pub const LASER_FEED_LIST: u8 = 18;
 pub const LASER_FEED_FRAME: u8 = 19;
+
+/// The names of the kinds, by number.
+pub const KIND_NAMES: [&str; 20] = [
+    "EnterShow",
+    "FixtureList",
+    "FixtureRemove",
+    "LaserFeedControl",
+    "Capa",
+    "UNam",
+    "ChBk",
+    "ChLs",
+    "Sxus",
+    "Ptch",
+    "UPtc",
+    "SPtc",
+    "Sele",
+    "DeSe",
+    "SFra",
+    "Fram",
+    "PNam",
+    "PLoc",
+    "LaserFeedList",
+    "LaserFeedFrame",
+];
+
+// ---- the walk; its report says what a packet holds
+
+/// no packet: the walk ended
 pub const END: u8 = 0;
+/// kind, body_start, body_len, added; in FPTC content_hint
 pub const MESSAGE: u8 = 1;
+/// layer
 pub const UNKNOWN_LAYER: u8 = 2;
+/// layer, content_type
 pub const UNKNOWN_KIND: u8 = 3;
+/// part, part_count
 pub const FRAGMENT: u8 = 4;
+/// number, 6 to 10
 pub const REFUSED: u8 = 5;
-pub const TURN_IDLE: u8 = 0;
-pub const TURN_BODY: u8 = 1;
-pub const TURN_ITEMS: u8 = 2;
-pub const TURN_PARTS: u8 = 3;
 
 #[repr(C)]
 #[derive(Clone, Copy, Debug, Default, PartialEq, Eq)]
 pub struct Step {
+    /// END to REFUSED
     pub report: u8,
+    /// of the end, 0 at the stream's end, else 1 to 5; of a refused packet, 6 to 10; else 0
     pub number: u8,
+    /// of a message: ENTER_SHOW to PLOC
     pub kind: u8,
     pub request_index: u16,
     pub part: u16,
     pub part_count: u16,
+    /// of the packet
     pub size: u32,
+    /// cookie of an unknown packet's layer
     pub layer: u32,
+    /// of an unknown kind
     pub content_type: u32,
     pub content_hint: u32,
+    /// of the packet, or of the end
     pub offset: usize,
+    /// where the next packet starts; at the end the offset again
     pub next: usize,
+    /// of a message: its body in the stream, added bytes included, as its `.._read` takes it
     pub body_start: usize,
     pub body_len: usize,
+    /// bytes behind those that the body takes
     pub added: usize,
 }
+
+functions! {
+    /// The packet at an offset of the stream; an offset past the end is an empty rest. Fields that the report does not
+    /// name are 0.
+    walk_step(stream: &[u8], at: usize) -> Step;
+}
+
+// ---- the base header
 
 #[repr(C)]
 #[derive(Clone, Copy, Debug, Default, PartialEq, Eq)]
@@ -68,6 +155,12 @@ pub struct Header {
     pub taken: usize,
 }
 
+functions! {
+    /// of a packet, from its first byte
+    header_read(body: &[u8]) -> Header;
+}
+
+/// The place behind what was written; of a refused call the place that was given.
 #[repr(C)]
 #[derive(Clone, Copy, Debug, Default, PartialEq, Eq)]
 pub struct Put {
@@ -75,6 +168,16 @@ pub struct Put {
     pub at: usize,
 }
 
+functions! {
+    header_write(
+        out: &mut [u8], at: usize, cookie: u32, version_major: u8, version_minor: u8, request_index: u16,
+        message_size: u32, message_part_count: u16, message_part: u16, content_type: u32
+    ) -> Put;
+}
+
+// ---- bodies read; `taken` is the number of bytes taken
+
+/// A body that is one string.
 #[repr(C)]
 #[derive(Clone, Copy, Debug, Default, PartialEq, Eq)]
 pub struct StringBody {
@@ -84,6 +187,7 @@ pub struct StringBody {
     pub len: usize,
 }
 
+/// A body that is one list.
 #[repr(C)]
 #[derive(Clone, Copy, Debug, Default, PartialEq, Eq)]
 pub struct ListBody {
@@ -97,6 +201,7 @@ pub struct ListBody {
 #[derive(Clone, Copy, Debug, Default, PartialEq, Eq)]
 pub struct FixtureList {
     pub number: u8,
+    /// 0 existing patch list, 1 new fixture, 2 exchange fixture
     pub message_type: u8,
     pub fixtures_left: u16,
     pub taken: usize,
@@ -112,6 +217,7 @@ pub struct LaserFeedControl {
     pub taken: usize,
 }
 
+/// UNam: the string is the universe's name; Sxus: it is the connection string.
 #[repr(C)]
 #[derive(Clone, Copy, Debug, Default, PartialEq, Eq)]
 pub struct UniverseString {
@@ -187,6 +293,39 @@ pub struct Ploc {
     pub state_len: usize,
 }
 
+functions! {
+    /// a Ucs2 string: name
+    enter_show_read(body: &[u8]) -> StringBody;
+    fixture_list_read(body: &[u8]) -> FixtureList;
+    /// a list of u32: fixture_identifiers
+    fixture_remove_read(body: &[u8]) -> ListBody;
+    laser_feed_control_read(body: &[u8]) -> LaserFeedControl;
+    /// a list of u16: capabilities
+    capa_read(body: &[u8]) -> ListBody;
+    unam_read(body: &[u8]) -> UniverseString;
+    chbk_read(body: &[u8]) -> Chbk;
+    /// a list of channel levels
+    chls_read(body: &[u8]) -> ListBody;
+    sxus_read(body: &[u8]) -> UniverseString;
+    ptch_read(body: &[u8]) -> Ptch;
+    /// a list of u16: fixture_identifiers
+    uptc_read(body: &[u8]) -> ListBody;
+    /// a list of u16: fixture_identifiers
+    sptc_read(body: &[u8]) -> ListBody;
+    sele_read(body: &[u8]) -> Sele;
+    /// a list of u16: fixture_identifiers
+    dese_read(body: &[u8]) -> ListBody;
+    /// a list of u16: fixture_identifiers
+    sfra_read(body: &[u8]) -> ListBody;
+    fram_read(body: &[u8]) -> Fram;
+    /// a CString: name
+    pnam_read(body: &[u8]) -> StringBody;
+    ploc_read(body: &[u8]) -> Ploc;
+}
+
+// ---- lists stepped through: `given` is 1 with an item and the cursor behind it; else the list is done, or refused. A
+// list that was read meets no refusal, a made-up cursor may.
+
 #[repr(C)]
 #[derive(Clone, Copy, Debug, Default, PartialEq, Eq)]
 pub struct U16Next {
@@ -225,6 +364,7 @@ pub struct ChannelLevelNext {
     pub at: usize,
 }
 
+/// The numbers of a fixture's data.
 #[repr(C)]
 #[derive(Clone, Copy, Debug, Default, PartialEq, Eq)]
 pub struct FixtureData {
@@ -240,6 +380,7 @@ pub struct FixtureData {
     pub angle_z: u32,
 }
 
+/// The strings are Ucs2.
 #[repr(C)]
 #[derive(Clone, Copy, Debug, Default, PartialEq, Eq)]
 pub struct FixtureNext {
@@ -273,105 +414,44 @@ pub struct IdentifierNext {
     pub number: u8,
     pub given: u8,
     pub left: u8,
+    /// 0 to 5
     pub identifier_type: u8,
     pub at: usize,
     pub data_start: usize,
     pub data_len: usize,
 }
 
-#[repr(C)]
-#[derive(Clone, Copy, Debug, Default, PartialEq, Eq)]
-pub struct Copied {
-    pub number: u8,
-    pub len: usize,
-}
-
-#[repr(C)]
-#[derive(Clone, Copy, Debug, Default, PartialEq, Eq)]
-pub struct Writer {
-    pub turn: u8,
-    pub kind: u8,
-    pub items: u16,
-    pub identifiers: u8,
-    pub at: u32,
-}
-
-#[repr(C)]
-#[derive(Clone, Copy, Debug, Default, PartialEq, Eq)]
-pub struct Written {
-    pub writer: Writer,
-    pub number: u8,
-}
-
-/// A function over slices from the one of the archive, to which a slice is a pointer and a length.
-macro_rules! function {
-    ($name:ident ($($args:tt)*) -> $answer:ty) => {
-        function!(@ $name [] [] [] ($($args)*) $answer);
-    };
-    (@ $name:ident [$($safe:tt)*] [$($raw:tt)*] [$($pass:tt)*] ($arg:ident: &mut [$t:ty] $(, $($rest:tt)*)?) $answer:ty) => {
-        function!(@ $name [$($safe)* $arg: &mut [$t],] [$($raw)* $arg: *mut $t, _: usize,]
-            [$($pass)* $arg.as_mut_ptr(), $arg.len(),] ($($($rest)*)?) $answer);
-    };
-    (@ $name:ident [$($safe:tt)*] [$($raw:tt)*] [$($pass:tt)*] ($arg:ident: &[$t:ty] $(, $($rest:tt)*)?) $answer:ty) => {
-        function!(@ $name [$($safe)* $arg: &[$t],] [$($raw)* $arg: *const $t, _: usize,]
-            [$($pass)* $arg.as_ptr(), $arg.len(),] ($($($rest)*)?) $answer);
-    };
-    (@ $name:ident [$($safe:tt)*] [$($raw:tt)*] [$($pass:tt)*] ($arg:ident: $t:ty $(, $($rest:tt)*)?) $answer:ty) => {
-        function!(@ $name [$($safe)* $arg: $t,] [$($raw)* $arg: $t,] [$($pass)* $arg,] ($($($rest)*)?) $answer);
-    };
-    (@ $name:ident [$($safe:tt)*] [$($raw:tt)*] [$($pass:tt)*] () $answer:ty) => {
-        #[allow(clippy::too_many_arguments)]
-        pub fn $name($($safe)*) -> $answer {
-            #[link(name = "citp", kind = "static")]
-            extern "C" {
-                #[link_name = concat!("citp_", stringify!($name))]
-                fn call($($raw)*) -> $answer;
-            }
-            unsafe { call($($pass)*) }
-        }
-    };
-}
-
-macro_rules! functions {
-    ($($name:ident $args:tt -> $answer:ty;)*) => {
-        $(function!($name $args -> $answer);)*
-    };
-}
-
 functions! {
-    walk_step(stream: &[u8], at: usize) -> Step;
-    header_read(packet: &[u8]) -> Header;
-    header_write(
-        out: &mut [u8], at: usize, cookie: u32, version_major: u8, version_minor: u8, request_index: u16,
-        message_size: u32, message_part_count: u16, message_part: u16, content_type: u32
-    ) -> Put;
-    enter_show_read(body: &[u8]) -> StringBody;
-    fixture_list_read(body: &[u8]) -> FixtureList;
-    fixture_remove_read(body: &[u8]) -> ListBody;
-    laser_feed_control_read(body: &[u8]) -> LaserFeedControl;
-    capa_read(body: &[u8]) -> ListBody;
-    unam_read(body: &[u8]) -> UniverseString;
-    chbk_read(body: &[u8]) -> Chbk;
-    chls_read(body: &[u8]) -> ListBody;
-    sxus_read(body: &[u8]) -> UniverseString;
-    ptch_read(body: &[u8]) -> Ptch;
-    uptc_read(body: &[u8]) -> ListBody;
-    sptc_read(body: &[u8]) -> ListBody;
-    sele_read(body: &[u8]) -> Sele;
-    dese_read(body: &[u8]) -> ListBody;
-    sfra_read(body: &[u8]) -> ListBody;
-    fram_read(body: &[u8]) -> Fram;
-    pnam_read(body: &[u8]) -> StringBody;
-    ploc_read(body: &[u8]) -> Ploc;
     u16_list_next(body: &[u8], at: usize, left: u16) -> U16Next;
     u32_list_next(body: &[u8], at: usize, left: u16) -> U32Next;
     channel_levels_next(body: &[u8], at: usize, left: u16) -> ChannelLevelNext;
     fixtures_next(body: &[u8], at: usize, left: u16) -> FixtureNext;
     identifiers_next(body: &[u8], at: usize, left: u8) -> IdentifierNext;
+}
+
+// ---- strings and lists of numbers copied out of a body: a string from its start up to the zero, which is not copied,
+// a list whole
+
+#[repr(C)]
+#[derive(Clone, Copy, Debug, Default, PartialEq, Eq)]
+pub struct Copied {
+    /// 0; a string 8 or 13, a list 7 or 13
+    pub number: u8,
+    /// bytes, units or items copied
+    pub len: usize,
+}
+
+functions! {
     copy_cstring(body: &[u8], start: usize, out: &mut [u8]) -> Copied;
     copy_ucs2(body: &[u8], start: usize, out: &mut [u16]) -> Copied;
     u16_list_copy(body: &[u8], at: usize, left: u16, out: &mut [u16]) -> Copied;
     u32_list_copy(body: &[u8], at: usize, left: u16, out: &mut [u32]) -> Copied;
+}
+
+// ---- sizes of bodies and of parts, at most the largest that the type has; of a channel list by the count of its
+// records
+
+functions! {
     enter_show_size(name: &[u16]) -> usize;
     fixture_remove_size(fixture_identifiers: &[u32]) -> usize;
     laser_feed_control_size() -> usize;
@@ -392,6 +472,11 @@ functions! {
     identifier_size(data: &[u8]) -> usize;
     fixture_data_size(unit: &[u16], circuit: &[u16], note: &[u16]) -> usize;
     laser_point_size() -> usize;
+}
+
+// ---- bodies written alone, at a place of `out`; lists of CAEX as their head and item by item
+
+functions! {
     enter_show_write(out: &mut [u8], at: usize, name: &[u16]) -> Put;
     fixture_remove_write(out: &mut [u8], at: usize, fixture_identifiers: &[u32]) -> Put;
     laser_feed_control_write(out: &mut [u8], at: usize, feed_index: u8, frame_rate: u8) -> Put;
@@ -417,6 +502,9 @@ functions! {
     ) -> Put;
     pnam_write(out: &mut [u8], at: usize, name: &[u8]) -> Put;
     ploc_write(out: &mut [u8], at: usize, listening_tcp_port: u16, kind: &[u8], name: &[u8], state: &[u8]) -> Put;
+}
+
+functions! {
     fixture_list_write_head(out: &mut [u8], at: usize, message_type: u8, fixture_count: usize) -> Put;
     fixture_write_head(
         out: &mut [u8], at: usize, fixture_identifier: u32, manufacturer_name: &[u16], fixture_name: &[u16],
@@ -434,9 +522,53 @@ functions! {
     laser_point_write(
         out: &mut [u8], at: usize, x_low_byte: u8, y_low_byte: u8, xy_high_nibbles: u8, color: u16
     ) -> Put;
+}
+
+// ---- the packet writer: open, then a flat body in one call or a list's head and its items one by one, then close. A
+// packet starts at the first byte of `out`; all its calls get the same `out`, and each the state that the call before
+// answered. After close `at` is the packet's size.
+
+/// fresh or closed: open is due
+pub const TURN_IDLE: u8 = 0;
+/// the body or the list's head of `kind` is due
+pub const TURN_BODY: u8 = 1;
+/// `items` items of `kind` are due; with none left, close is
+pub const TURN_ITEMS: u8 = 2;
+/// in a fixture: `identifiers` identifiers are due, then its data; `items` fixtures follow
+pub const TURN_PARTS: u8 = 3;
+
+/// Any values may be given: a turn above 3, and in turns 1 and 2 a kind above 19, is a state in which every call is
+/// refused with 14. A refused call answers every field as it was given.
+#[repr(C)]
+#[derive(Clone, Copy, Debug, Default, PartialEq, Eq)]
+pub struct Writer {
+    pub turn: u8,
+    pub kind: u8,
+    pub items: u16,
+    pub identifiers: u8,
+    /// bytes of the packet that stand
+    pub at: u32,
+}
+
+#[repr(C)]
+#[derive(Clone, Copy, Debug, Default, PartialEq, Eq)]
+pub struct Written {
+    /// the state for the next call
+    pub writer: Writer,
+    pub number: u8,
+}
+
+functions! {
     writer_new() -> Writer;
+}
+
+functions! {
+    /// A kind above 19 is refused with 14. The content hint is written in FPTC alone.
     writer_open(w: Writer, out: &mut [u8], kind: u8, request_index: u16, content_hint: u32) -> Written;
     writer_close(w: Writer, out: &mut [u8]) -> Written;
+}
+
+functions! {
     writer_enter_show(w: Writer, out: &mut [u8], name: &[u16]) -> Written;
     writer_fixture_remove(w: Writer, out: &mut [u8], fixture_identifiers: &[u32]) -> Written;
     writer_laser_feed_control(w: Writer, out: &mut [u8], feed_index: u8, frame_rate: u8) -> Written;
@@ -462,6 +594,10 @@ functions! {
     ) -> Written;
     writer_pnam(w: Writer, out: &mut [u8], name: &[u8]) -> Written;
     writer_ploc(w: Writer, out: &mut [u8], listening_tcp_port: u16, kind: &[u8], name: &[u8], state: &[u8]) -> Written;
+}
+
+functions! {
+    /// A fixture list: its head, then for each fixture head, identifiers, data.
     writer_fixture_list_head(w: Writer, out: &mut [u8], message_type: u8, fixture_count: usize) -> Written;
     writer_fixture_head(
         w: Writer, out: &mut [u8], fixture_identifier: u32, manufacturer_name: &[u16], fixture_name: &[u16],
@@ -471,8 +607,16 @@ functions! {
     writer_fixture_data(
         w: Writer, out: &mut [u8], data: FixtureData, unit: &[u16], circuit: &[u16], note: &[u16]
     ) -> Written;
+}
+
+functions! {
+    /// A laser feed list: its head, then the names.
     writer_laser_feed_list_head(w: Writer, out: &mut [u8], source_key: u32, feed_count: usize) -> Written;
     writer_feed_name(w: Writer, out: &mut [u8], feed_name: &[u16]) -> Written;
+}
+
+functions! {
+    /// A laser feed frame: its head, then the points.
     writer_laser_feed_frame_head(
         w: Writer, out: &mut [u8], source_key: u32, feed_index: u8, frame_sequence: u32, point_count: usize
     ) -> Written;
