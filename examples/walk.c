@@ -1,14 +1,11 @@
-/* Walks a stored stream and prints a line a packet: its offset, its size and what it is. */
+/* walk FILE: walks a stored stream and prints a line a packet: its offset, its size and what it is. The status is 2 where
+ * FILE cannot be read, 3 where the lines cannot be written. */
 #include <stdio.h>
+#include <stdlib.h>
 
 #include "citp.h"
 
-static uint8_t stream[65536];
-
-static const char *const kinds[] = {
-    "EnterShow", "FixtureList", "FixtureRemove", "LaserFeedControl", "Capa", "UNam", "ChBk", "ChLs", "Sxus",
-    "Ptch",      "UPtc",        "SPtc",          "Sele",             "DeSe", "SFra", "Fram", "PNam", "PLoc",
-};
+static const char *const kinds[] = {CITP_KIND_NAMES};
 
 static void print_packet(citp_step s) {
     printf("%zu %u ", s.offset, (unsigned)s.size);
@@ -34,19 +31,53 @@ static void print_packet(citp_step s) {
     printf("\n");
 }
 
-int main(int argc, char **argv) {
-    FILE *file = argc == 2 ? fopen(argv[1], "rb") : NULL;
+/* What errno says of the file; the program ends. */
+static void fail(const char *path) {
+    perror(path);
+    exit(2);
+}
+
+/* The whole file, in memory that the caller frees. */
+static uint8_t *read_file(const char *path, size_t *len) {
+    FILE *file = fopen(path, "rb");
     if (file == NULL) {
+        fail(path);
+    }
+    uint8_t *bytes = NULL;
+    size_t room = 0;
+    *len = 0;
+    while (*len == room) {
+        room = room == 0 ? 65536 : 2 * room;
+        bytes = realloc(bytes, room);
+        if (bytes == NULL) {
+            fail(path);
+        }
+        *len += fread(bytes + *len, 1, room - *len, file);
+    }
+    if (ferror(file)) {
+        fail(path);
+    }
+    fclose(file);
+    return bytes;
+}
+
+int main(int argc, char **argv) {
+    if (argc != 2) {
         fprintf(stderr, "usage: walk FILE\n");
         return 2;
     }
-    size_t len = fread(stream, 1, sizeof stream, file);
-    fclose(file);
+    size_t len;
+    uint8_t *stream = read_file(argv[1], &len);
     citp_step s = citp_walk_step(stream, len, 0);
     while (s.report != CITP_END) {
         print_packet(s);
         s = citp_walk_step(stream, len, s.next);
     }
     printf("%zu end %u\n", s.offset, (unsigned)s.number);
+    free(stream);
+    if (fflush(stdout) != 0 || ferror(stdout)) {
+        fprintf(stderr, "walk: standard output cannot be written\n");
+        return 3;
+    }
     return 0;
 }

@@ -1,15 +1,14 @@
-//! Walks a stored stream and prints a line a packet: its offset, its size and what it is.
-use citp::Step;
+//! walk FILE: walks a stored stream and prints a line a packet: its offset, its size and what it is. The status is 2 where
+//! FILE cannot be read, 3 where the lines cannot be written.
+use std::io::Write;
+use std::process::ExitCode;
 
-const KINDS: [&str; 18] = [
-    "EnterShow", "FixtureList", "FixtureRemove", "LaserFeedControl", "Capa", "UNam", "ChBk", "ChLs", "Sxus", "Ptch",
-    "UPtc", "SPtc", "Sele", "DeSe", "SFra", "Fram", "PNam", "PLoc",
-];
+use citp::Step;
 
 fn what(s: &Step) -> String {
     match s.report {
-        citp::MESSAGE if s.added == 0 => KINDS[s.kind as usize].to_string(),
-        citp::MESSAGE => format!("{}, {} bytes added", KINDS[s.kind as usize], s.added),
+        citp::MESSAGE if s.added == 0 => citp::KIND_NAMES[s.kind as usize].to_string(),
+        citp::MESSAGE => format!("{}, {} bytes added", citp::KIND_NAMES[s.kind as usize], s.added),
         citp::UNKNOWN_LAYER => format!("unknown layer {:08X}", s.layer),
         citp::UNKNOWN_KIND => format!("unknown kind {:08X} in layer {:08X}", s.content_type, s.layer),
         citp::FRAGMENT => format!("fragment {} of {}", s.part, s.part_count),
@@ -17,16 +16,32 @@ fn what(s: &Step) -> String {
     }
 }
 
-fn main() {
-    let Some(path) = std::env::args().nth(1) else {
-        eprintln!("usage: walk FILE");
-        std::process::exit(2);
-    };
-    let stream = std::fs::read(&path).expect("the file can be read");
-    let mut s = citp::walk_step(&stream, 0);
+fn walk(stream: &[u8], out: &mut impl Write) -> std::io::Result<()> {
+    let mut s = citp::walk_step(stream, 0);
     while s.report != citp::END {
-        println!("{} {} {}", s.offset, s.size, what(&s));
-        s = citp::walk_step(&stream, s.next);
+        writeln!(out, "{} {} {}", s.offset, s.size, what(&s))?;
+        s = citp::walk_step(stream, s.next);
     }
-    println!("{} end {}", s.offset, s.number);
+    writeln!(out, "{} end {}", s.offset, s.number)?;
+    out.flush()
+}
+
+fn main() -> ExitCode {
+    let args: Vec<_> = std::env::args_os().collect();
+    let [_, path] = &args[..] else {
+        eprintln!("usage: walk FILE");
+        return ExitCode::from(2);
+    };
+    let stream = match std::fs::read(path) {
+        Ok(stream) => stream,
+        Err(error) => {
+            eprintln!("{}: {error}", path.display());
+            return ExitCode::from(2);
+        }
+    };
+    if let Err(error) = walk(&stream, &mut std::io::stdout().lock()) {
+        eprintln!("walk: standard output cannot be written: {error}");
+        return ExitCode::from(3);
+    }
+    ExitCode::SUCCESS
 }
