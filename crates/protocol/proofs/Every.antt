@@ -1,6 +1,6 @@
--- What a test computed over the whole table of kinds shows of each kind.
-use Prim.Native.Nat.{ℕ}
-use mathlib.Core.Path.{_≡_, refl, sym, ap, _∙_}
+-- A kind is known by its index, and a test computed over the whole table of kinds holds of each kind.
+use Prim.Native.Nat.{ℕ, zero, suc}
+use mathlib.Core.Path.{_≡_, refl, sym, ap, subst, _∙_}
 use mathlib.Core.Bool.{Bool, true, _&&_}
 use mathlib.Core.List.{List, [], _∷_, _++_}
 use lib.ListN.{getD}
@@ -13,41 +13,6 @@ use Rattle.protocol.specs.Kind.{EnterShow, FixtureList, FixtureRemove, L
 -- the kinds that are read, then those that are written only
 abbrev pub allKinds : List Kind
 allKinds = kinds ++ (LaserFeedList ∷ LaserFeedFrame ∷ [])
-
--- every element passes the test
-unfoldable pub every : {A : Type 0} → (A → Bool) → List A → Bool
-every test [] = true
-every test (x ∷ xs) = test x && every test xs
-
-pub every-all : {A : Type 0} (test : A → Bool) (xs : List A) → every test xs ≡ true → All (λ x. test x ≡ true) xs
-unfolding every
-every-all test [] e = tt
-every-all test (x ∷ xs) e = let b = both (test x) (every test xs) e in (b .0, every-all test xs (b .1))
-
-each-kind : (P : Kind → Type 0) → All P allKinds → (k : Kind) → P k
-each-kind P h EnterShow = h .0
-each-kind P h FixtureList = h .1 .0
-each-kind P h FixtureRemove = h .1 .1 .0
-each-kind P h LaserFeedControl = h .1 .1 .1 .0
-each-kind P h Capa = h .1 .1 .1 .1 .0
-each-kind P h UNam = h .1 .1 .1 .1 .1 .0
-each-kind P h ChBk = h .1 .1 .1 .1 .1 .1 .0
-each-kind P h ChLs = h .1 .1 .1 .1 .1 .1 .1 .0
-each-kind P h Sxus = h .1 .1 .1 .1 .1 .1 .1 .1 .0
-each-kind P h Ptch = h .1 .1 .1 .1 .1 .1 .1 .1 .1 .0
-each-kind P h UPtc = h .1 .1 .1 .1 .1 .1 .1 .1 .1 .1 .0
-each-kind P h SPtc = h .1 .1 .1 .1 .1 .1 .1 .1 .1 .1 .1 .0
-each-kind P h Sele = h .1 .1 .1 .1 .1 .1 .1 .1 .1 .1 .1 .1 .0
-each-kind P h DeSe = h .1 .1 .1 .1 .1 .1 .1 .1 .1 .1 .1 .1 .1 .0
-each-kind P h SFra = h .1 .1 .1 .1 .1 .1 .1 .1 .1 .1 .1 .1 .1 .1 .0
-each-kind P h Fram = h .1 .1 .1 .1 .1 .1 .1 .1 .1 .1 .1 .1 .1 .1 .1 .0
-each-kind P h PNam = h .1 .1 .1 .1 .1 .1 .1 .1 .1 .1 .1 .1 .1 .1 .1 .1 .0
-each-kind P h PLoc = h .1 .1 .1 .1 .1 .1 .1 .1 .1 .1 .1 .1 .1 .1 .1 .1 .1 .0
-each-kind P h LaserFeedList = h .1 .1 .1 .1 .1 .1 .1 .1 .1 .1 .1 .1 .1 .1 .1 .1 .1 .1 .0
-each-kind P h LaserFeedFrame = h .1 .1 .1 .1 .1 .1 .1 .1 .1 .1 .1 .1 .1 .1 .1 .1 .1 .1 .1 .0
-
-pub every-kind : (test : Kind → Bool) → every test allKinds ≡ true → (k : Kind) → test k ≡ true
-every-kind test e = each-kind (λ k. test k ≡ true) (every-all test allKinds e)
 
 -- ---- a kind is known by its index
 
@@ -75,3 +40,27 @@ kind-at LaserFeedFrame = refl
 
 pub same-kind : (j k : Kind) → sameKind j k ≡ true → j ≡ k
 same-kind j k e = sym (kind-at j) ∙ ap (λ (n : ℕ). getD allKinds n EnterShow) (eqb-true (index j) (index k) e) ∙ kind-at k
+
+-- ---- what a computed test shows of each kind
+
+-- every element passes the test
+unfoldable pub every : {A : Type 0} → (A → Bool) → List A → Bool
+every test [] = true
+every test (x ∷ xs) = test x && every test xs
+
+pub every-all : {A : Type 0} (test : A → Bool) (xs : List A) → every test xs ≡ true → All (λ x. test x ≡ true) xs
+unfolding every
+every-all test [] e = tt
+every-all test (x ∷ xs) e = let b = both (test x) (every test xs) e in (b .0, every-all test xs (b .1))
+
+-- what holds of every element holds of the one at a place, and of the default past the end
+all-at : {A : Type 0} (P : A → Type 0) (xs : List A) {d : A} → All P xs → P d → (n : ℕ) → P (getD xs n d)
+all-at P [] h p n = p
+all-at P (x ∷ xs) h p zero = h .0
+all-at P (x ∷ xs) h p (suc n) = all-at P xs (h .1) p n
+
+each-kind : (P : Kind → Type 0) → All P allKinds → (k : Kind) → P k
+each-kind P h k = subst P (kind-at k) (all-at P allKinds h (h .0) (index k))
+
+pub every-kind : (test : Kind → Bool) → every test allKinds ≡ true → (k : Kind) → test k ≡ true
+every-kind test e = each-kind (λ k. test k ≡ true) (every-all test allKinds e)
