@@ -1,11 +1,13 @@
 -- The packet writer over plain fields: kinds by their codes, and a call from what its parts answer.
 use Prim.Native.Nat.{ℕ, zero, suc}
 use mathlib.Core.Path.{_≡_, refl, sym, ap, _∙_}
+use mathlib.Core.Bool.{Bool, true, false, false≢true}
 use mathlib.Core.List.{List}
-use mathlib.Core.Option.{none, some}
+use mathlib.Core.Option.{Option, none, some}
 use borrow.Author.Tests.{ne-eqb}
 use Rattle.protocol.specs.Layer.{Layer, find}
-use Rattle.protocol.specs.Kind.{Kind, EnterShow, FixtureList, FixtureRemove, LaserFeedControl, Capa, UNam, ChBk, ChLs, Sxus, Ptch, UPtc, SPtc, Sele, DeSe, SFra, Fram, PNam, PLoc, LaserFeedList, LaserFeedFrame, index}
+use Rattle.protocol.specs.Kind.{Kind, index, sameKind}
+use Rattle.protocol.proofs.Every.{every, every-kind, same-kind}
 use Rattle.writing.specs.Call.{Call}
 use Rattle.writing.specs.Writer.{idle, bodyDue, itemsDue, partsDue, Writer, Outcome, apply}
 use Rattle.turns.specs.Says.{figuresSay, turnIs}
@@ -17,28 +19,20 @@ use Rattle.plain.specs.declared.state.WriterAnswer.{WriterAnswer}
 
 -- ---- kinds by their codes
 
+abbrev isKind : Kind → Option Kind → Bool
+isKind k none = false
+isKind k (some j) = sameKind j k
+
+kind-test : (k : Kind) → isKind k (kindAt (index k)) ≡ true
+unfolding every kindAt find
+kind-test k = every-kind (λ k. isKind k (kindAt (index k))) refl k
+
 pub kind-found : (k : Kind) → kindAt (index k) ≡ some k
-unfolding kindAt find
-kind-found EnterShow = refl
-kind-found FixtureList = refl
-kind-found FixtureRemove = refl
-kind-found LaserFeedControl = refl
-kind-found Capa = refl
-kind-found UNam = refl
-kind-found ChBk = refl
-kind-found ChLs = refl
-kind-found Sxus = refl
-kind-found Ptch = refl
-kind-found UPtc = refl
-kind-found SPtc = refl
-kind-found Sele = refl
-kind-found DeSe = refl
-kind-found SFra = refl
-kind-found Fram = refl
-kind-found PNam = refl
-kind-found PLoc = refl
-kind-found LaserFeedList = refl
-kind-found LaserFeedFrame = refl
+kind-found k = on (kindAt (index k)) (kind-test k)
+  where
+    on : (x : Option Kind) → isKind k x ≡ true → x ≡ some k
+    on none h = absurd (false≢true h)
+    on (some j) h = ap some (same-kind j k h)
 
 pub kind-at : (k : Kind) {code : ℕ} → code ≡ index k → some k ≡ kindAt code
 kind-at k e = sym (ap kindAt e ∙ kind-found k)
