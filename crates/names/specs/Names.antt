@@ -77,46 +77,40 @@ patchChannels = numberOf "channel" and numberOf "channel_count" and cstringOf "f
 
 -- ---- kinds
 
-abbrev pub listed : (k : Kind) → Listed (bodyOf k)
-listed EnterShow = ucs2Of "name"
-listed FixtureList = typeOf "message_type" and listOf "fixture_count" fixture
-listed FixtureRemove = listOf "fixture_count" (numberOf "fixture_identifiers")
-listed LaserFeedControl = numberOf "feed_index" and numberOf "frame_rate"
-listed Capa = numbersOf "capabilities"
-listed UNam = numberOf "universe_index" and cstringOf "universe_name"
-listed ChBk = numberOf "blind" and numberOf "universe_index" and numberOf "first_channel" and blockOf "channel_levels"
-listed ChLs = uncounted "channel_levels" channelLevel
-listed Sxus = numberOf "universe_index" and cstringOf "connection_string"
-listed Ptch = numberOf "fixture_identifier" and numberOf "universe" and numberOf "reserved" and patchChannels
-listed UPtc = numbersOf "fixture_identifiers"
-listed SPtc = numbersOf "fixture_identifiers"
-listed Sele = numberOf "complete" and numberOf "reserved" and numbersOf "fixture_identifiers"
-listed DeSe = numbersOf "fixture_identifiers"
-listed SFra = numbersOf "fixture_identifiers"
-listed Fram = numberOf "fixture_identifier" and numberOf "frame_filter_count" and numberOf "frame_gobo_count" and cstringOf "frame_names"
-listed PNam = cstringOf "name"
-listed PLoc = numberOf "listening_tcp_port" and cstringOf "kind" and cstringOf "name" and cstringOf "state"
-listed LaserFeedList = numberOf "source_key" and listOf "feed_count" (ucs2Of "feed_names")
-listed LaserFeedFrame = numberOf "source_key" and numberOf "feed_index" and numberOf "frame_sequence" and listOf "point_count" laserPoint
+-- a kind's name, and its fields under theirs
+record Row (f : Format) : Type 0 where
+  kind : String
+  fields : Listed f
+
+abbrev named : {f : Format} → String → Listed f → Row f
+named n l = record { kind = n; fields = l }
+
+abbrev rows : (k : Kind) → Row (bodyOf k)
+rows EnterShow = named "EnterShow" (ucs2Of "name")
+rows FixtureList = named "FixtureList" (typeOf "message_type" and listOf "fixture_count" fixture)
+rows FixtureRemove = named "FixtureRemove" (listOf "fixture_count" (numberOf "fixture_identifiers"))
+rows LaserFeedControl = named "LaserFeedControl" (numberOf "feed_index" and numberOf "frame_rate")
+rows Capa = named "Capa" (numbersOf "capabilities")
+rows UNam = named "UNam" (numberOf "universe_index" and cstringOf "universe_name")
+rows ChBk = named "ChBk" (numberOf "blind" and numberOf "universe_index" and numberOf "first_channel" and blockOf "channel_levels")
+rows ChLs = named "ChLs" (uncounted "channel_levels" channelLevel)
+rows Sxus = named "Sxus" (numberOf "universe_index" and cstringOf "connection_string")
+rows Ptch = named "Ptch" (numberOf "fixture_identifier" and numberOf "universe" and numberOf "reserved" and patchChannels)
+rows UPtc = named "UPtc" (numbersOf "fixture_identifiers")
+rows SPtc = named "SPtc" (numbersOf "fixture_identifiers")
+rows Sele = named "Sele" (numberOf "complete" and numberOf "reserved" and numbersOf "fixture_identifiers")
+rows DeSe = named "DeSe" (numbersOf "fixture_identifiers")
+rows SFra = named "SFra" (numbersOf "fixture_identifiers")
+rows Fram = named "Fram"
+    (numberOf "fixture_identifier" and numberOf "frame_filter_count" and numberOf "frame_gobo_count" and cstringOf "frame_names")
+rows PNam = named "PNam" (cstringOf "name")
+rows PLoc = named "PLoc" (numberOf "listening_tcp_port" and cstringOf "kind" and cstringOf "name" and cstringOf "state")
+rows LaserFeedList = named "LaserFeedList" (numberOf "source_key" and listOf "feed_count" (ucs2Of "feed_names"))
+rows LaserFeedFrame = named "LaserFeedFrame"
+    (numberOf "source_key" and numberOf "feed_index" and numberOf "frame_sequence" and listOf "point_count" laserPoint)
 
 abbrev pub kindName : Kind → String
-kindName EnterShow = "EnterShow"
-kindName FixtureList = "FixtureList"
-kindName FixtureRemove = "FixtureRemove"
-kindName LaserFeedControl = "LaserFeedControl"
-kindName Capa = "Capa"
-kindName UNam = "UNam"
-kindName ChBk = "ChBk"
-kindName ChLs = "ChLs"
-kindName Sxus = "Sxus"
-kindName Ptch = "Ptch"
-kindName UPtc = "UPtc"
-kindName SPtc = "SPtc"
-kindName Sele = "Sele"
-kindName DeSe = "DeSe"
-kindName SFra = "SFra"
-kindName Fram = "Fram"
-kindName PNam = "PNam"
-kindName PLoc = "PLoc"
-kindName LaserFeedList = "LaserFeedList"
-kindName LaserFeedFrame = "LaserFeedFrame"
+kindName k = rows k .kind
+
+abbrev pub listed : (k : Kind) → Listed (bodyOf k)
+listed k = rows k .fields
