@@ -18,14 +18,14 @@ use Rattle.protocol.specs.Kind.{Kind, index, layer, bodyOf, sameKind, identifie
 use Rattle.protocol.specs.Kind.{FixtureList, LaserFeedList, LaserFeedFrame}
 use Rattle.protocol.specs.Message.{Message, headersOf, packetSize, Sendable}
 use Rattle.protocol.proofs.Headers.{length-headers}
-use Rattle.writing.specs.Call.{Layout, plain, counted, layoutFits, layoutZero, layoutLong, Part, body, feedName, laserPoint, identifier, fixtureData}
+use Rattle.writing.specs.Call.{Layout, plain, counted, layoutFits, layoutZero, layoutLong, Part, feedName, laserPoint, identifier, fixtureData}
 use Rattle.writing.specs.Call.{opens, give, closes, Typed, partBytes, headOf, identifiersOf, dataOf, fixtureParts, partsOf, callsOf}
+use Rattle.writing.specs.Call.{Form, flat, fixtures, names, points, form, isFlatForm, partsIn}
 use Rattle.writing.specs.Writer.{Turn, isFlat, idle, bodyDue, itemsDue, partsDue, partInTurn, nextPart, behindHeaders, Writer, Outcome, Progress, step, run}
 use Rattle.writing.proofs.Taken.{Taken, is-taken}
 use Rattle.stream.specs.Accepted.{after, closing, closedBytes, Accepted}
 use Rattle.stream.specs.Claims as claims
 use Rattle.writing.proofs.Parts.{FinePart, parts-bytes}
-use Rattle.writing.proofs.Form.{Form, flat, fixtures, names, points, form}
 use Rattle.stream.proofs.Written.{accepted-is}
 
 -- ---- a valid value is given in parts that are refused neither 11 nor 12
@@ -58,8 +58,8 @@ fixtures-fine (x ∷ xs) h = all-append FinePart (fixtureParts x) (concatMap fix
 parts-fine : (k : Kind) (v : Value (bodyOf k)) → Valid (bodyOf k) v → All FinePart (partsOf k v)
 parts-fine k v h = by (form k) v h
   where
-    by : {k : Kind} → Form k → (v : Value (bodyOf k)) → Valid (bodyOf k) v → All FinePart (partsOf k v)
-    by {k} (flat f one) v h = subst (All FinePart) (sym (one v)) (plain-fine (bodyOf k) v h, tt)
+    by : {k : Kind} (f : Form k) (v : Value (bodyOf k)) → Valid (bodyOf k) v → All FinePart (partsIn f v)
+    by {k} flat v h = (plain-fine (bodyOf k) v h, tt)
     by fixtures v h = (counted-fine (code 3 9) (v .0) 2 (length (v .1)) (h .0) (h .1 .0), fixtures-fine (v .1) (h .1 .1))
     by names v h = (counted-fine (number 4) (v .0) 1 (length (v .1)) (h .0) (h .1 .0), all-of-map FinePart (Valid ucs2) feedName (plain-fine ucs2) (v .1) (h .1 .1))
     by points v h = (
@@ -126,16 +126,15 @@ fixtures-turns [] = stay
 fixtures-turns (x ∷ xs) = turns-on (fixture-turns (length xs) x) (fixtures-turns xs)
 
 parts-turns : (k : Kind) (v : Value (bodyOf k)) → Turns (bodyDue k) (partsOf k v) (itemsDue k 0)
-parts-turns k v = by (form k) v
+parts-turns k v = by (form k) refl v
   where
-    by : {k : Kind} → Form k → (v : Value (bodyOf k)) → Turns (bodyDue k) (partsOf k v) (itemsDue k 0)
-    by {k} (flat f one) v =
-        let due : (isFlat k && sameKind k k) ≡ true = rw (f, eq-eqb (index k) (index k) refl) in
-        let turns : Turns (bodyDue k) (body k v ∷ []) (itemsDue k 0) = go due (le-refl (headerLength (layer k))) stay in
-        subst (λ (ps : List Part). Turns (bodyDue k) ps (itemsDue k 0)) (sym (one v)) turns
-    by fixtures v = go refl (le-refl 24) (fixtures-turns (v .1))
-    by names v = go refl (le-refl 24) (names-turns (v .1))
-    by points v = go refl (le-refl 24) (points-turns (v .1 .1 .1))
+    by : {k : Kind} (f : Form k) → isFlat k ≡ isFlatForm f → (v : Value (bodyOf k)) → Turns (bodyDue k) (partsIn f v) (itemsDue k 0)
+    by {k} flat e v =
+        let due : (isFlat k && sameKind k k) ≡ true = rw (e, eq-eqb (index k) (index k) refl) in
+        go due (le-refl (headerLength (layer k))) stay
+    by fixtures e v = go refl (le-refl 24) (fixtures-turns (v .1))
+    by names e v = go refl (le-refl 24) (names-turns (v .1))
+    by points e v = go refl (le-refl 24) (points-turns (v .1 .1 .1))
 
 -- ---- they are taken
 

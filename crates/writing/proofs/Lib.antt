@@ -1,4 +1,3 @@
 pub mod Taken
 pub mod Parts
 pub mod Shape
-pub mod Form

@@ -1,6 +1,6 @@
 -- The calls that give a message: their bytes are its body, and where each was fit to be taken the message is valid.
 use Prim.Native.Nat.{ℕ}
-use mathlib.Core.Path.{_≡_, refl, ap, _∙_, subst}
+use mathlib.Core.Path.{_≡_, refl, ap, _∙_}
 use mathlib.Core.Bool.{false}
 use mathlib.Core.List.{List, [], _∷_, _++_, map, append-assoc, append-nil}
 use borrow.Author.Tests.{leb-false}
@@ -12,9 +12,9 @@ use Rattle.format.proofs.Faults.{passed-is-valid, any-never}
 use Rattle.format.proofs.Lists.{concatMap-append, concatMap-map, concatMap-parts, all-front, all-behind, all-map}
 use Rattle.protocol.specs.Kind.{Kind, bodyOf, identifierFormat, fixtureDataFormat, fixtureHead, fixtureFormat, laserPointFormat}
 use Rattle.protocol.specs.Kind.{LaserFeedFrame}
-use Rattle.writing.specs.Call.{Part, body, feedName, laserFeedFrame, laserPoint, fixture, identifier, fixtureData}
+use Rattle.writing.specs.Call.{Part, feedName, laserFeedFrame, laserPoint, fixture, identifier, fixtureData}
 use Rattle.writing.specs.Call.{layoutOf, layoutFits, layoutZero, layoutLong, partBytes, headOf, identifiersOf, dataOf, fixtureParts, partsOf}
-use Rattle.writing.proofs.Form.{Form, flat, fixtures, names, points, form}
+use Rattle.writing.specs.Call.{Form, flat, fixtures, names, points, form, partsIn}
 
 -- ---- the bytes
 
@@ -46,8 +46,8 @@ pub parts-bytes : (k : Kind) (v : Value (bodyOf k)) → concatMap partBytes (par
 unfolding concatMap
 parts-bytes k v = by (form k) v
   where
-    by : {k : Kind} → Form k → (v : Value (bodyOf k)) → concatMap partBytes (partsOf k v) ≡ encode (bodyOf k) v
-    by {k} (flat f one) v = ap (concatMap partBytes) (one v) ∙ append-nil (encode (bodyOf k) v)
+    by : {k : Kind} (f : Form k) (v : Value (bodyOf k)) → concatMap partBytes (partsIn f v) ≡ encode (bodyOf k) v
+    by {k} flat v = append-nil (encode (bodyOf k) v)
     by fixtures v = simp (encode-pair, encode-list, append-assoc, concatMap-parts partBytes fixtureParts (encode fixtureFormat) fixture-bytes (v .1))
     by names v = simp (encode-pair, encode-list, append-assoc, concatMap-map)
     by points v = frame-bytes v
@@ -75,15 +75,12 @@ fixtures-valid [] h = tt
 fixtures-valid (x ∷ xs) h =
     (fixture-valid x (all-front FinePart (fixtureParts x) (concatMap fixtureParts xs) h), fixtures-valid xs (all-behind FinePart (fixtureParts x) (concatMap fixtureParts xs) h))
 
-flat-valid : (k : Kind) (v : Value (bodyOf k)) → FinePart (body k v) → Valid (bodyOf k) v
-flat-valid k v h = passed-is-valid (bodyOf k) v (h .0) (h .1) (h .2)
-
 pub parts-valid : (k : Kind) (v : Value (bodyOf k)) → All FinePart (partsOf k v) → Valid (bodyOf k) v
 unfolding holdsZero tooLong
 parts-valid k v h = by (form k) v h
   where
-    by : {k : Kind} → Form k → (v : Value (bodyOf k)) → All FinePart (partsOf k v) → Valid (bodyOf k) v
-    by {k} (flat f one) v h = let all : All FinePart (body k v ∷ []) = subst (All FinePart) (one v) h in flat-valid k v (all .0)
+    by : {k : Kind} (f : Form k) (v : Value (bodyOf k)) → All FinePart (partsIn f v) → Valid (bodyOf k) v
+    by {k} flat v h = passed-is-valid (bodyOf k) v (h .0 .0) (h .0 .1) (h .0 .2)
     by fixtures v h = (h .0 .0, (leb-false 65536 (length (v .1)) (h .0 .2), fixtures-valid (v .1) (h .1)))
     by names v h = (
       h .0 .0,

@@ -14,11 +14,10 @@ use Rattle.protocol.specs.Kind.{FixtureList, LaserFeedList, LaserFeedFrame}
 use Rattle.protocol.specs.Message.{Message}
 use Rattle.protocol.proofs.Every.{same-kind}
 use Rattle.writing.specs.Call.{Part, body, laserFeedList, feedName, laserFeedFrame, laserPoint, fixtureList, fixture, identifier, fixtureData}
-use Rattle.writing.specs.Call.{Call, opens, give, fixtureParts, partsOf, callsOf}
+use Rattle.writing.specs.Call.{Call, opens, give, fixtureParts, Form, form, isFlatForm, partsIn, partsOf, callsOf}
+use Rattle.writing.specs.Call as call
 use Rattle.writing.specs.Writer.{Turn, idle, bodyDue, itemsDue, partsDue, isIdle, isBody, isItem, isIdentifier, isData, isClose, isFlat, partInTurn, left, identifiersLeft, nextPart}
 use Rattle.format.proofs.Bools.{both}
-use Rattle.writing.proofs.Form as form
-use Rattle.writing.proofs.Form.{Form, form}
 
 -- ---- the taken calls, by turn
 
@@ -167,11 +166,11 @@ part-not-idle (fixtureData d) idle e = absurd (false≢true e)
 flat-parts : (k : Kind) (v : Value (bodyOf k)) → isFlat k ≡ true → body k v ∷ [] ≡ partsOf k v
 flat-parts k v f = by (form k) v f
   where
-    by : {k : Kind} → Form k → (v : Value (bodyOf k)) → isFlat k ≡ true → body k v ∷ [] ≡ partsOf k v
-    by (form.flat f one) v e = sym (one v)
-    by form.fixtures v e = absurd (false≢true e)
-    by form.names v e = absurd (false≢true e)
-    by form.points v e = absurd (false≢true e)
+    by : {k : Kind} (f : Form k) (v : Value (bodyOf k)) → isFlatForm f ≡ true → body k v ∷ [] ≡ partsIn f v
+    by call.flat v e = refl
+    by call.fixtures v e = absurd (false≢true e)
+    by call.names v e = absurd (false≢true e)
+    by call.points v e = absurd (false≢true e)
 
 pub record Gave (cs : List Call) : Type 0 where
   pub message : Message

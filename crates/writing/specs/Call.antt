@@ -1,6 +1,6 @@
 -- The calls of the packet writer, what each gives, and what the types of its parameters promise of it.
 use Prim.Native.Nat.{ℕ, _^_, _<_}
-use mathlib.Core.Bool.{Bool, false, _||_}
+use mathlib.Core.Bool.{Bool, true, false, _||_}
 use mathlib.Core.List.{List, [], _∷_, _++_, map}
 use lib.ListN.{length}
 use lib.Dec.{leb}
@@ -104,28 +104,50 @@ dataOf x = x .1 .1 .1 .1 .1 .1 .1
 abbrev pub fixtureParts : Value fixtureFormat → List Part
 fixtureParts x = fixture (headOf x) (length (identifiersOf x)) ∷ (map identifier (identifiersOf x) ++ (fixtureData (dataOf x) ∷ []))
 
+-- how a kind's body is given: in one call, or a list's head and then its items
+pub data Form : Kind → Type 0 where
+  flat : {k : Kind} → Form k
+  fixtures : Form FixtureList
+  names : Form LaserFeedList
+  points : Form LaserFeedFrame
+
+abbrev pub form : (k : Kind) → Form k
+form EnterShow = flat
+form FixtureList = fixtures
+form FixtureRemove = flat
+form LaserFeedControl = flat
+form Capa = flat
+form UNam = flat
+form ChBk = flat
+form ChLs = flat
+form Sxus = flat
+form Ptch = flat
+form UPtc = flat
+form SPtc = flat
+form Sele = flat
+form DeSe = flat
+form SFra = flat
+form Fram = flat
+form PNam = flat
+form PLoc = flat
+form LaserFeedList = names
+form LaserFeedFrame = points
+
+abbrev pub isFlatForm : {k : Kind} → Form k → Bool
+isFlatForm flat = true
+isFlatForm fixtures = false
+isFlatForm names = false
+isFlatForm points = false
+
 -- the parts in which a value of a kind's body is given
+abbrev pub partsIn : {k : Kind} → Form k → Value (bodyOf k) → List Part
+partsIn {k} flat v = body k v ∷ []
+partsIn fixtures v = fixtureList (v .0) (length (v .1)) ∷ concatMap fixtureParts (v .1)
+partsIn names v = laserFeedList (v .0) (length (v .1)) ∷ map feedName (v .1)
+partsIn points v = laserFeedFrame (v .0) (v .1 .0) (v .1 .1 .0) (length (v .1 .1 .1)) ∷ map laserPoint (v .1 .1 .1)
+
 abbrev pub partsOf : (k : Kind) → Value (bodyOf k) → List Part
-partsOf EnterShow v = body EnterShow v ∷ []
-partsOf FixtureList v = fixtureList (v .0) (length (v .1)) ∷ concatMap fixtureParts (v .1)
-partsOf FixtureRemove v = body FixtureRemove v ∷ []
-partsOf LaserFeedControl v = body LaserFeedControl v ∷ []
-partsOf Capa v = body Capa v ∷ []
-partsOf UNam v = body UNam v ∷ []
-partsOf ChBk v = body ChBk v ∷ []
-partsOf ChLs v = body ChLs v ∷ []
-partsOf Sxus v = body Sxus v ∷ []
-partsOf Ptch v = body Ptch v ∷ []
-partsOf UPtc v = body UPtc v ∷ []
-partsOf SPtc v = body SPtc v ∷ []
-partsOf Sele v = body Sele v ∷ []
-partsOf DeSe v = body DeSe v ∷ []
-partsOf SFra v = body SFra v ∷ []
-partsOf Fram v = body Fram v ∷ []
-partsOf PNam v = body PNam v ∷ []
-partsOf PLoc v = body PLoc v ∷ []
-partsOf LaserFeedList v = laserFeedList (v .0) (length (v .1)) ∷ map feedName (v .1)
-partsOf LaserFeedFrame v = laserFeedFrame (v .0) (v .1 .0) (v .1 .1 .0) (length (v .1 .1 .1)) ∷ map laserPoint (v .1 .1 .1)
+partsOf k v = partsIn (form k) v
 
 -- the calls, from open up to but without close, whose values make up a message, items in order
 abbrev pub callsOf : Message → List Call

@@ -1,6 +1,6 @@
 -- The writer's state, whose turn it is, and what each call does to state and output.
 use Prim.Native.Nat.{ℕ, zero, suc, _+_, _-_}
-use mathlib.Core.Bool.{Bool, true, false, not, _&&_, _||_}
+use mathlib.Core.Bool.{Bool, true, false, _&&_}
 use mathlib.Core.List.{List, [], _∷_, _++_}
 use lib.ListN.{length}
 use lib.Seq.{sets}
@@ -10,7 +10,7 @@ use Rattle.format.specs.Fault.{weighed}
 use Rattle.protocol.specs.Layer.{headerLength}
 use Rattle.protocol.specs.Kind.{Kind, layer, sameKind, FixtureList, LaserFeedList, LaserFeedFrame}
 use Rattle.writing.specs.Call.{Part, body, laserFeedList, feedName, laserFeedFrame, laserPoint, fixtureList, fixture, identifier, fixtureData}
-use Rattle.writing.specs.Call.{Call, opens, give, closes, bytesOf, zeroIn, tooLongIn}
+use Rattle.writing.specs.Call.{Call, opens, give, closes, bytesOf, zeroIn, tooLongIn, form, isFlatForm}
 
 -- fresh or closed; open, the body or the list's head due; so many items due, and with none left close;
 -- in a fixture: so many fixtures due behind it, and so many identifiers, then its data
@@ -65,7 +65,7 @@ isClose (partsDue n i) = false
 
 -- kinds whose body is given in one call
 abbrev pub isFlat : Kind → Bool
-isFlat k = not (sameKind k FixtureList || sameKind k LaserFeedList || sameKind k LaserFeedFrame)
+isFlat k = isFlatForm (form k)
 
 abbrev pub partInTurn : Part → Turn → Bool
 partInTurn (body k v) t = isFlat k && isBody k t
