@@ -3,8 +3,8 @@ use Prim.Native.Nat.{ℕ}
 use Prim.Native.String.{String}
 use mathlib.Core.List.{_++_}
 use Rattle.format.specs.Format.{Format, number, code, cstring, ucs2, list, _&_}
-use Rattle.protocol.specs.Kind.{Kind, EnterShow, FixtureList, FixtureRemove, LaserFeedControl, Capa, UNam, ChBk, ChLs, Sxus, Ptch, UPtc, SPtc, Sele, DeSe, SFra, Fram, PNam, PLoc, LaserFeedList, LaserFeedFrame}
-use Rattle.protocol.specs.Kind.{bodyOf, identifierFormat, fixtureDataFormat, fixtureFormat, channelLevelFormat, laserPointFormat}
+use Rattle.protocol.specs.Kind as kind
+use Rattle.protocol.specs.Kind.{Kind, bodyOf, identifierFormat, fixtureDataFormat, fixtureFormat, channelLevelFormat, laserPointFormat}
 use Rattle.text.specs.Text.{chars}
 use Rattle.lines.specs.Lines.{Listed, decimal, bits, type, bytes, units, each, block, digits, _and_}
 
@@ -79,38 +79,38 @@ patchChannels = numberOf "channel" and numberOf "channel_count" and cstringOf "f
 
 -- a kind's name, and its fields under theirs
 record Row (f : Format) : Type 0 where
-  kind : String
+  name : String
   fields : Listed f
 
 abbrev named : {f : Format} → String → Listed f → Row f
-named n l = record { kind = n; fields = l }
+named n l = record { name = n; fields = l }
 
 abbrev rows : (k : Kind) → Row (bodyOf k)
-rows EnterShow = named "EnterShow" (ucs2Of "name")
-rows FixtureList = named "FixtureList" (typeOf "message_type" and listOf "fixture_count" fixture)
-rows FixtureRemove = named "FixtureRemove" (listOf "fixture_count" (numberOf "fixture_identifiers"))
-rows LaserFeedControl = named "LaserFeedControl" (numberOf "feed_index" and numberOf "frame_rate")
-rows Capa = named "Capa" (numbersOf "capabilities")
-rows UNam = named "UNam" (numberOf "universe_index" and cstringOf "universe_name")
-rows ChBk = named "ChBk" (numberOf "blind" and numberOf "universe_index" and numberOf "first_channel" and blockOf "channel_levels")
-rows ChLs = named "ChLs" (uncounted "channel_levels" channelLevel)
-rows Sxus = named "Sxus" (numberOf "universe_index" and cstringOf "connection_string")
-rows Ptch = named "Ptch" (numberOf "fixture_identifier" and numberOf "universe" and numberOf "reserved" and patchChannels)
-rows UPtc = named "UPtc" (numbersOf "fixture_identifiers")
-rows SPtc = named "SPtc" (numbersOf "fixture_identifiers")
-rows Sele = named "Sele" (numberOf "complete" and numberOf "reserved" and numbersOf "fixture_identifiers")
-rows DeSe = named "DeSe" (numbersOf "fixture_identifiers")
-rows SFra = named "SFra" (numbersOf "fixture_identifiers")
-rows Fram = named "Fram"
+rows kind.EnterShow = named "EnterShow" (ucs2Of "name")
+rows kind.FixtureList = named "FixtureList" (typeOf "message_type" and listOf "fixture_count" fixture)
+rows kind.FixtureRemove = named "FixtureRemove" (listOf "fixture_count" (numberOf "fixture_identifiers"))
+rows kind.LaserFeedControl = named "LaserFeedControl" (numberOf "feed_index" and numberOf "frame_rate")
+rows kind.Capa = named "Capa" (numbersOf "capabilities")
+rows kind.UNam = named "UNam" (numberOf "universe_index" and cstringOf "universe_name")
+rows kind.ChBk = named "ChBk" (numberOf "blind" and numberOf "universe_index" and numberOf "first_channel" and blockOf "channel_levels")
+rows kind.ChLs = named "ChLs" (uncounted "channel_levels" channelLevel)
+rows kind.Sxus = named "Sxus" (numberOf "universe_index" and cstringOf "connection_string")
+rows kind.Ptch = named "Ptch" (numberOf "fixture_identifier" and numberOf "universe" and numberOf "reserved" and patchChannels)
+rows kind.UPtc = named "UPtc" (numbersOf "fixture_identifiers")
+rows kind.SPtc = named "SPtc" (numbersOf "fixture_identifiers")
+rows kind.Sele = named "Sele" (numberOf "complete" and numberOf "reserved" and numbersOf "fixture_identifiers")
+rows kind.DeSe = named "DeSe" (numbersOf "fixture_identifiers")
+rows kind.SFra = named "SFra" (numbersOf "fixture_identifiers")
+rows kind.Fram = named "Fram"
     (numberOf "fixture_identifier" and numberOf "frame_filter_count" and numberOf "frame_gobo_count" and cstringOf "frame_names")
-rows PNam = named "PNam" (cstringOf "name")
-rows PLoc = named "PLoc" (numberOf "listening_tcp_port" and cstringOf "kind" and cstringOf "name" and cstringOf "state")
-rows LaserFeedList = named "LaserFeedList" (numberOf "source_key" and listOf "feed_count" (ucs2Of "feed_names"))
-rows LaserFeedFrame = named "LaserFeedFrame"
+rows kind.PNam = named "PNam" (cstringOf "name")
+rows kind.PLoc = named "PLoc" (numberOf "listening_tcp_port" and cstringOf "kind" and cstringOf "name" and cstringOf "state")
+rows kind.LaserFeedList = named "LaserFeedList" (numberOf "source_key" and listOf "feed_count" (ucs2Of "feed_names"))
+rows kind.LaserFeedFrame = named "LaserFeedFrame"
     (numberOf "source_key" and numberOf "feed_index" and numberOf "frame_sequence" and listOf "point_count" laserPoint)
 
 abbrev pub kindName : Kind → String
-kindName k = rows k .kind
+kindName k = rows k .name
 
 abbrev pub listed : (k : Kind) → Listed (bodyOf k)
 listed k = rows k .fields

@@ -8,38 +8,38 @@ use borrow.Author.Tests.{eqb-true}
 use Rattle.format.specs.Format.{All}
 use Rattle.format.proofs.Bools.{both}
 use Rattle.protocol.specs.Kind.{Kind, index, sameKind, kinds}
-use Rattle.protocol.specs.Kind.{EnterShow, FixtureList, FixtureRemove, LaserFeedControl, Capa, UNam, ChBk, ChLs, Sxus, Ptch, UPtc, SPtc, Sele, DeSe, SFra, Fram, PNam, PLoc, LaserFeedList, LaserFeedFrame}
+use Rattle.protocol.specs.Kind as kind
 
 -- the kinds that are read, then those that are written only
 abbrev pub allKinds : List Kind
-allKinds = kinds ++ (LaserFeedList ∷ LaserFeedFrame ∷ [])
+allKinds = kinds ++ (kind.LaserFeedList ∷ kind.LaserFeedFrame ∷ [])
 
 -- ---- a kind is known by its index
 
-kind-at : (k : Kind) → getD allKinds (index k) EnterShow ≡ k
-kind-at EnterShow = refl
-kind-at FixtureList = refl
-kind-at FixtureRemove = refl
-kind-at LaserFeedControl = refl
-kind-at Capa = refl
-kind-at UNam = refl
-kind-at ChBk = refl
-kind-at ChLs = refl
-kind-at Sxus = refl
-kind-at Ptch = refl
-kind-at UPtc = refl
-kind-at SPtc = refl
-kind-at Sele = refl
-kind-at DeSe = refl
-kind-at SFra = refl
-kind-at Fram = refl
-kind-at PNam = refl
-kind-at PLoc = refl
-kind-at LaserFeedList = refl
-kind-at LaserFeedFrame = refl
+kind-at : (k : Kind) → getD allKinds (index k) kind.EnterShow ≡ k
+kind-at kind.EnterShow = refl
+kind-at kind.FixtureList = refl
+kind-at kind.FixtureRemove = refl
+kind-at kind.LaserFeedControl = refl
+kind-at kind.Capa = refl
+kind-at kind.UNam = refl
+kind-at kind.ChBk = refl
+kind-at kind.ChLs = refl
+kind-at kind.Sxus = refl
+kind-at kind.Ptch = refl
+kind-at kind.UPtc = refl
+kind-at kind.SPtc = refl
+kind-at kind.Sele = refl
+kind-at kind.DeSe = refl
+kind-at kind.SFra = refl
+kind-at kind.Fram = refl
+kind-at kind.PNam = refl
+kind-at kind.PLoc = refl
+kind-at kind.LaserFeedList = refl
+kind-at kind.LaserFeedFrame = refl
 
 pub same-kind : (j k : Kind) → sameKind j k ≡ true → j ≡ k
-same-kind j k e = sym (kind-at j) ∙ ap (λ (n : ℕ). getD allKinds n EnterShow) (eqb-true (index j) (index k) e) ∙ kind-at k
+same-kind j k e = sym (kind-at j) ∙ ap (λ (n : ℕ). getD allKinds n kind.EnterShow) (eqb-true (index j) (index k) e) ∙ kind-at k
 
 -- ---- what a computed test shows of each kind
 

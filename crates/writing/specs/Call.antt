@@ -7,7 +7,7 @@ use lib.Dec.{leb}
 use Rattle.format.specs.Format.{Format, number, code, ucs2, _&_, Value, encode, concatMap}
 use Rattle.format.specs.Fault.{Fits, holdsZero, tooLong}
 use Rattle.protocol.specs.Kind.{Kind, bodyOf, identifierFormat, fixtureHead, fixtureDataFormat, fixtureFormat, laserPointFormat}
-use Rattle.protocol.specs.Kind.{EnterShow, FixtureList, FixtureRemove, LaserFeedControl, Capa, UNam, ChBk, ChLs, Sxus, Ptch, UPtc, SPtc, Sele, DeSe, SFra, Fram, PNam, PLoc, LaserFeedList, LaserFeedFrame}
+use Rattle.protocol.specs.Kind as kind
 use Rattle.protocol.specs.Message.{Message, headersOf}
 
 -- what one call gives between open and close: a flat body at once; or a list's head with its count, then its items one by one,
@@ -107,31 +107,31 @@ fixtureParts x = fixture (headOf x) (length (identifiersOf x)) ∷ (map identifi
 -- how a kind's body is given: in one call, or a list's head and then its items
 pub data Form : Kind → Type 0 where
   flat : {k : Kind} → Form k
-  fixtures : Form FixtureList
-  names : Form LaserFeedList
-  points : Form LaserFeedFrame
+  fixtures : Form kind.FixtureList
+  names : Form kind.LaserFeedList
+  points : Form kind.LaserFeedFrame
 
 abbrev pub form : (k : Kind) → Form k
-form EnterShow = flat
-form FixtureList = fixtures
-form FixtureRemove = flat
-form LaserFeedControl = flat
-form Capa = flat
-form UNam = flat
-form ChBk = flat
-form ChLs = flat
-form Sxus = flat
-form Ptch = flat
-form UPtc = flat
-form SPtc = flat
-form Sele = flat
-form DeSe = flat
-form SFra = flat
-form Fram = flat
-form PNam = flat
-form PLoc = flat
-form LaserFeedList = names
-form LaserFeedFrame = points
+form kind.EnterShow = flat
+form kind.FixtureList = fixtures
+form kind.FixtureRemove = flat
+form kind.LaserFeedControl = flat
+form kind.Capa = flat
+form kind.UNam = flat
+form kind.ChBk = flat
+form kind.ChLs = flat
+form kind.Sxus = flat
+form kind.Ptch = flat
+form kind.UPtc = flat
+form kind.SPtc = flat
+form kind.Sele = flat
+form kind.DeSe = flat
+form kind.SFra = flat
+form kind.Fram = flat
+form kind.PNam = flat
+form kind.PLoc = flat
+form kind.LaserFeedList = names
+form kind.LaserFeedFrame = points
 
 abbrev pub isFlatForm : {k : Kind} → Form k → Bool
 isFlatForm flat = true
