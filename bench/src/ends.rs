@@ -1,6 +1,6 @@
 //! A string's end.
-use crate::library;
 use crate::inputs::letters;
+use crate::library;
 use crate::measure::Row;
 use crate::rows::row;
 use std::hint::black_box;

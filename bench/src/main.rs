@@ -5,11 +5,13 @@ mod bodies;
 #[allow(dead_code)]
 #[path = "../../differential/src/canon.rs"]
 mod canon;
+mod ends;
 #[allow(dead_code)]
 #[path = "../../differential/src/given.rs"]
 mod given;
-mod ends;
 mod inputs;
+#[path = "../../differential/src/kinds.rs"]
+mod kinds;
 #[allow(dead_code)]
 #[path = "../../bindings/rust/citp.rs"]
 mod library;

@@ -1,6 +1,8 @@
 //! Bodies read.
+use crate::bodies::Part;
 use crate::given::Given;
 use crate::inputs::{body, sizes};
+use crate::kinds::kinds;
 use crate::library;
 use crate::measure::Row;
 use crate::rows::{read, sized};
@@ -17,7 +19,7 @@ fn taken<T: ReadFromBytes>(body: &[u8]) -> u64 {
 }
 
 macro_rules! readers {
-    ($($t:ty, $read:ident;)*) => {
+    ($($t:ty, $kind:ident, $read:ident, $shape:tt $rest:tt)*) => {
         pub fn rows(rows: &mut Vec<Row>) {
             $(for (size, elements) in sizes(<$t>::SHAPE) {
                 let body: &'static [u8] = body(<$t>::SHAPE, elements).leak();
@@ -26,6 +28,16 @@ macro_rules! readers {
                     library::$read(body).taken as u64
                 });
             })*
+        }
+
+        /// The kinds with a list, a block or fixtures.
+        pub fn with_lists() -> Vec<&'static str> {
+            let list = |part: &Part| matches!(part, Part::List(_) | Part::Fixtures);
+            let mut names = Vec::new();
+            $(if <$t>::SHAPE.iter().any(list) {
+                names.push(<$t>::NAME);
+            })*
+            names
         }
 
         /// Reads a body as the Rust's guide says: by the content types of both headers.
@@ -45,23 +57,4 @@ macro_rules! readers {
         }
     };
 }
-readers! {
-    caex::EnterShow, enter_show_read;
-    caex::FixtureList<'static>, fixture_list_read;
-    caex::FixtureRemove<'static>, fixture_remove_read;
-    caex::LaserFeedControl, laser_feed_control_read;
-    sdmx::Capa<'static>, capa_read;
-    sdmx::UNam, unam_read;
-    sdmx::ChBk<'static>, chbk_read;
-    sdmx::ChLs<'static>, chls_read;
-    sdmx::Sxus, sxus_read;
-    fptc::Ptch, ptch_read;
-    fptc::UPtc<'static>, uptc_read;
-    fptc::SPtc<'static>, sptc_read;
-    fsel::Sele<'static>, sele_read;
-    fsel::DeSe<'static>, dese_read;
-    finf::SFra<'static>, sfra_read;
-    finf::Fram, fram_read;
-    pinf::PNam, pnam_read;
-    pinf::PLoc, ploc_read;
-}
+kinds!(readers);

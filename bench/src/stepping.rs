@@ -1,7 +1,7 @@
 //! Lists read and stepped whole; those of numbers also copied whole.
 use crate::bodies::Part;
-use crate::library;
 use crate::inputs::{body, Size, SMALL};
+use crate::library;
 use crate::measure::Row;
 use crate::rows::{read, row};
 use crate::rust::Body;
@@ -33,13 +33,8 @@ fn our_fixtures_sum(body: &[u8]) -> u64 {
     let body = black_box(body);
     let list = library::fixture_list_read(body);
     steps!(body, fixtures_next, list.fixtures_at, list.fixtures_left, |x: &library::FixtureNext| {
-        let identifiers = steps!(
-            body,
-            identifiers_next,
-            x.identifiers_at,
-            x.identifiers_left,
-            |i: &library::IdentifierNext| i.identifier_type as u64
-        );
+        let identifier_type = |i: &library::IdentifierNext| i.identifier_type as u64;
+        let identifiers = steps!(body, identifiers_next, x.identifiers_at, x.identifiers_left, identifier_type);
         x.fixture_identifier as u64 + x.data.channel as u64 + identifiers
     })
 }

@@ -1,5 +1,6 @@
 //! The table: ratios first.
 use crate::measure::{Cost, Row};
+use crate::reading::with_lists;
 
 type Measured<'a> = [(&'a Row, Cost)];
 
@@ -71,8 +72,8 @@ fn target(what: &str, due: f64, (reached, row): (f64, String)) {
 }
 
 fn targets(all: &Measured) {
-    let strings = ["EnterShow", "UNam", "Sxus", "Ptch", "Fram", "PNam", "PLoc", "LaserFeedControl"];
-    let many = |row: &Row| row.size != "small" && !strings.contains(&row.name.as_str());
+    let lists = with_lists();
+    let many = |row: &Row| row.size != "small" && lists.contains(&row.name.as_str());
     println!("\n| target, as a ratio of times | due | reached, at the row with the least | |\n|---|---|---|---|");
     // a hundredth is within what two runs differ by
     target("bodies read: not slower than the Rust", 0.99, least(all, "read", |_| true));

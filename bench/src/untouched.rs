@@ -1,7 +1,7 @@
 //! A channel block whose levels lie in memory that may not be read: a step that read one would end the process.
 use crate::bodies::Part;
-use crate::library;
 use crate::inputs::{body, stream, Size, SMALL};
+use crate::library;
 use citp::protocol::sdmx::ChBk;
 
 extern "C" {

@@ -1,6 +1,6 @@
 //! Streams walked.
-use crate::library;
 use crate::inputs::{body, stream, Size, SMALL};
+use crate::library;
 use crate::measure::Row;
 use crate::reading::{read_body, read_ours};
 use crate::rows::{read, row};

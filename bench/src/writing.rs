@@ -1,8 +1,9 @@
 //! Packets written.
-use crate::canon::{level_fields, ucs2_of, with_units, written};
-use crate::library;
-use crate::given::{Given, Layer};
+use crate::canon::{ucs2_of, with_units, written};
+use crate::given::{levels, Given, Layer};
 use crate::inputs::{self, body, sizes, units, value, Size, SIZES};
+use crate::kinds::kinds;
+use crate::library;
 use crate::measure::Row;
 use crate::pens::{Packet, Pen};
 use crate::rows::sized;
@@ -73,20 +74,27 @@ fn packet<T: Given + 'static>(
     sized(rows, "written", name, sort, move || rust(lent(a)), move || ours(lent(b)));
 }
 
-macro_rules! flat {
-    ($($t:ty),*) => {
-        /// Kinds whose values' strings and lists are lent to our calls as they are.
-        fn flat(rows: &mut Vec<Row>, size: &'static str, elements: Size) {
-            $(if sizes(<$t>::SHAPE).any(|(name, _)| name == size) {
-                packet::<$t>(rows, <$t>::NAME, size, value(&body(<$t>::SHAPE, elements)), |value, pen| value.give(pen));
-            })*
+/// Kinds with Ucs2 strings or channel levels: what ours takes is made before, by `lent`.
+const LENT: [u8; 3] = [library::ENTER_SHOW, library::FIXTURE_LIST, library::CHLS];
+
+/// A kind whose values' strings and lists are lent to our calls as they are.
+fn flat<T: Given + Body + 'static>(rows: &mut Vec<Row>, size: &'static str, elements: Size)
+where
+    T::Layer: Packets,
+{
+    if !LENT.contains(&T::KIND) && sizes(T::SHAPE).any(|(name, _)| name == size) {
+        packet::<T>(rows, T::NAME, size, value(&body(T::SHAPE, elements)), |value, pen| value.give(pen));
+    }
+}
+
+macro_rules! all_flat {
+    ($($t:ty, $kind:ident, $read:ident, $shape:tt $rest:tt)*) => {
+        fn all_flat(rows: &mut Vec<Row>, size: &'static str, elements: Size) {
+            $(flat::<$t>(rows, size, elements);)*
         }
     };
 }
-flat! {
-    caex::FixtureRemove<'static>, caex::LaserFeedControl, sdmx::Capa<'static>, sdmx::UNam, sdmx::ChBk<'static>, sdmx::Sxus, fptc::Ptch,
-    fptc::UPtc<'static>, fptc::SPtc<'static>, fsel::Sele<'static>, fsel::DeSe<'static>, finf::SFra<'static>, finf::Fram, pinf::PNam, pinf::PLoc
-}
+kinds!(all_flat);
 
 fn owned(string: &protocol::Ucs2) -> Vec<u16> {
     with_units(string, <[u16]>::to_vec)
@@ -126,7 +134,7 @@ fn give_fixture(
         + pen.fixture_data(data, unit, circuit, note)
 }
 
-/// Kinds with Ucs2 strings or channel levels: what ours takes is made before.
+/// The rows of `LENT`.
 fn lent(rows: &mut Vec<Row>, size: &'static str, elements: Size) {
     let name = units(elements.string);
     packet(
@@ -143,9 +151,7 @@ fn lent(rows: &mut Vec<Row>, size: &'static str, elements: Size) {
         head + list.fixtures.iter().zip(&texts).map(|(x, texts)| give_fixture(x, texts, pen)).sum::<u8>()
     });
     let list: sdmx::ChLs = value(&body(sdmx::ChLs::SHAPE, elements));
-    let records =
-        |(universe_index, channel, channel_level)| library::ChannelLevel { universe_index, channel, channel_level };
-    let levels: Vec<library::ChannelLevel> = list.channel_levels.iter().map(level_fields).map(records).collect();
+    let levels = levels(&list.channel_levels);
     packet(rows, "ChLs", size, list, move |_, pen| pen.chls(&levels));
 }
 
@@ -172,7 +178,7 @@ fn lasers(rows: &mut Vec<Row>, size: &'static str, feeds: usize, points: usize) 
 
 pub fn rows(rows: &mut Vec<Row>) {
     for ((size, elements), (feeds, points)) in SIZES.into_iter().zip([(0, 0), (4, 500), (255, 65_535)]) {
-        flat(rows, size, elements);
+        all_flat(rows, size, elements);
         lent(rows, size, elements);
         lasers(rows, size, feeds, points);
     }

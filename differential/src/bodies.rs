@@ -201,8 +201,22 @@ pub fn cuts(shape: &[Part], random: &mut Random, visit: &mut dyn FnMut(&[u8])) {
     (0..=body.len()).for_each(|n| visit(&body[..n]));
 }
 
-/// Every body of up to two bytes, then all of three to six bytes over the alphabet.
-pub fn short(alphabet: &[u8], visit: &mut dyn FnMut(&[u8])) {
+const NUMBERS: [u8; 7] = [0x00, 0x01, 0x02, 0x03, 0x65, 0x80, 0xFF];
+const STRINGS: [u8; 7] = [0x00, 0x01, 0x03, 0x41, 0x80, 0xD8, 0xFF];
+const CODES: [u8; 7] = [0x00, 0x01, 0x02, 0x03, 0x06, 0x41, 0xFF];
+
+fn alphabet(shape: &[Part]) -> [u8; 7] {
+    let has = |sort: fn(&Part) -> bool| shape.iter().any(sort);
+    match () {
+        _ if has(|part| matches!(part, Part::Code(_))) => CODES,
+        _ if has(|part| matches!(part, Part::CString | Part::Ucs2)) => STRINGS,
+        _ => NUMBERS,
+    }
+}
+
+/// Every body of up to two bytes, then all of three to six bytes over the alphabet of the shape.
+pub fn short(shape: &[Part], visit: &mut dyn FnMut(&[u8])) {
+    let alphabet = alphabet(shape);
     visit(&[]);
     for a in 0..=255 {
         visit(&[a]);

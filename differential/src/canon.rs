@@ -1,6 +1,7 @@
 //! The canonical bytes of a value, the same for the Rust's values and ours: fields in struct order, numbers and codes
 //! little-endian in their own width, floats by their bits, a string or block as its length (u32) and its bytes or
 //! units, a list as 01 and an item for each item, then 00.
+use crate::kinds::kinds;
 use citp::protocol::{caex, finf, fptc, fsel, pinf, sdmx, Header, Kind, Ucs2, WriteToBytes};
 use std::borrow::Cow;
 use std::ffi::CString;
@@ -128,37 +129,30 @@ impl Canon for Kind {
     }
 }
 
+/// Types with every field that they have.
 macro_rules! structs {
-    ($($t:ty { $($field:ident),* })*) => { $(impl Canon for $t {
+    ($($t:ty { $($field:ident),* $(,)? })*) => { $(impl Canon for $t {
         fn canon(&self, out: &mut Vec<u8>) {
-            $(self.$field.canon(out);)*
+            let Self { $($field),* } = self;
+            $($field.canon(out);)*
         }
     })* };
 }
 structs! {
     Header { cookie, version_major, version_minor, kind, message_size, message_part_count, message_part, content_type }
-    caex::EnterShow { name }
-    caex::FixtureList<'_> { message_type, fixture_count, fixtures }
     caex::Fixture<'_> {
         fixture_identifier, manufacturer_name, fixture_name, mode_name, channel_count, is_dimmer, identifier_count,
         identifiers, data
     }
     caex::Identifier<'_> { identifier_type, data_size, data }
     caex::FixtureData { patched, universe, universe_channel, unit, channel, circuit, note, position, angles }
-    caex::FixtureRemove<'_> { fixture_count, fixture_identifiers }
-    caex::LaserFeedControl { feed_index, frame_rate }
-    sdmx::Capa<'_> { capabilities }
-    sdmx::UNam { universe_index, universe_name }
-    sdmx::ChBk<'_> { blind, universe_index, first_channel, channel_levels }
-    sdmx::ChLs<'_> { channel_levels }
-    sdmx::Sxus { universe_index, connection_string }
-    fptc::Ptch { fixture_identifier, universe, reserved, channel, channel_count, fixture_make, fixture_name }
-    fptc::UPtc<'_> { fixture_identifiers }
-    fptc::SPtc<'_> { fixture_identifiers }
-    fsel::Sele<'_> { complete, reserved, fixture_identifiers }
-    fsel::DeSe<'_> { fixture_identifiers }
-    finf::SFra<'_> { fixture_identifiers }
-    finf::Fram { fixture_identifier, frame_filter_count, frame_gobo_count, frame_names }
-    pinf::PNam { name }
-    pinf::PLoc { listening_tcp_port, kind, name, state }
 }
+
+macro_rules! kind_structs {
+    ($($t:ty, $kind:ident, $read:ident, $shape:tt {
+        ($($number:ident),*), ($($field:ident: $reader:ident $ends:tt $(counted by $count:ident)?),*), $give:path, $size:path
+    })*) => {
+        structs! { $($t { $($number,)* $($($count,)? $field),* })* }
+    };
+}
+kinds!(kind_structs);

@@ -136,7 +136,7 @@ fn first_other_byte(rust: &[u8], ours: &[u8]) -> Option<String> {
 /// All short bodies.
 pub fn short<T: Compared>(tally: &mut Tally) {
     let mut scratch = Scratch::default();
-    bodies::short(&T::ALPHABET, &mut |body_| body::<T>(body_, &mut scratch, tally));
+    bodies::short(T::SHAPE, &mut |body_| body::<T>(body_, &mut scratch, tally));
 }
 
 /// A long body and every cut of it.

@@ -1,8 +1,12 @@
 //! Values of the Rust given to our writers, and the packets that both make of them.
 use crate::canon::{level_fields, with_units, written};
+use crate::kinds::{kinds, laser_feeds};
 use crate::library;
 use crate::pens::Pen;
 use citp::protocol::{self, caex, finf, fptc, fsel, pinf, sdmx, SizeBytes, Ucs2, WriteToBytes};
+use std::borrow::Cow;
+use std::ffi::CString;
+use std::ops::Deref;
 
 /// A kind that is written.
 pub trait Given: WriteToBytes + SizeBytes + Sized {
@@ -42,12 +46,27 @@ fn units(string: &Ucs2) -> Vec<u16> {
     with_units(string, <[u16]>::to_vec)
 }
 
-fn levels(list: &[sdmx::ChannelLevel]) -> Vec<library::ChannelLevel> {
-    let record = |level| {
-        let (universe_index, channel, channel_level) = level_fields(level);
-        library::ChannelLevel { universe_index, channel, channel_level }
-    };
-    list.iter().map(record).collect()
+/// A string or list of the Rust, as our calls take it.
+trait Lent<T> {
+    fn lent(&self) -> impl Deref<Target = [T]>;
+}
+
+impl Lent<u8> for CString {
+    fn lent(&self) -> impl Deref<Target = [u8]> {
+        self.as_bytes()
+    }
+}
+
+impl Lent<u16> for Ucs2 {
+    fn lent(&self) -> impl Deref<Target = [u16]> {
+        units(self)
+    }
+}
+
+impl<T: Clone> Lent<T> for Cow<'_, [T]> {
+    fn lent(&self) -> impl Deref<Target = [T]> {
+        &**self
+    }
 }
 
 fn base_header(layer: &[u8; 4], size: usize, request_index: u16) -> protocol::Header {
@@ -101,30 +120,6 @@ layers! {
     pinf, pinf_header, 24;
 }
 
-macro_rules! kinds {
-    ($($layer:ident::$name:ident $(<$life:lifetime>)?, $kind:ident, |$v:ident, $pen:ident| $give:expr, $size:expr;)*) => { $(
-        impl Given for $layer::$name $(<$life>)? {
-            const KIND: u8 = library::$kind;
-            type Layer = $layer::Header;
-
-            fn content_type() -> u32 {
-                ContentType::code($layer::$name::CONTENT_TYPE)
-            }
-
-            fn give<P: Pen>(&self, $pen: &mut P) -> u8 {
-                let $v = self;
-                $give
-            }
-
-            #[allow(unused_variables)]
-            fn size(&self) -> Option<usize> {
-                let $v = self;
-                $size
-            }
-        }
-    )* };
-}
-
 /// Calls up to the first that is refused.
 macro_rules! in_turn {
     ($first:expr $(, $next:expr)*) => {{
@@ -174,89 +169,94 @@ fn give_fixture_data<P: Pen>(data: &caex::FixtureData, pen: &mut P) -> u8 {
     pen.fixture_data(numbers, &units(&data.unit), &units(&data.circuit), &units(&data.note))
 }
 
+fn give_fixture_list<P: Pen>(
+    pen: &mut P,
+    message_type: caex::FixtureListMessageType,
+    fixtures: &[caex::Fixture],
+) -> u8 {
+    in_turn!(
+        pen.fixture_list_head(message_type.into(), fixtures.len()),
+        each(fixtures, |fixture| give_fixture(fixture, pen))
+    )
+}
+
 /// Our sizes of the parts of a fixture list for which there is a function, and the Rust's for the heads.
-fn fixture_list_size(list: &caex::FixtureList) -> usize {
+fn fixture_list_size(fixtures: &[caex::Fixture]) -> usize {
     let names = |x: &caex::Fixture| [&x.manufacturer_name, &x.fixture_name, &x.mode_name].map(Ucs2::size_bytes);
     let head = |x: &caex::Fixture| 8 + names(x).iter().sum::<usize>();
     let identifiers =
         |x: &caex::Fixture| x.identifiers.iter().map(|i| library::identifier_size(&i.data)).sum::<usize>();
     let data = |x: &caex::FixtureData| library::fixture_data_size(&units(&x.unit), &units(&x.circuit), &units(&x.note));
-    3 + list.fixtures.iter().map(|x| head(x) + identifiers(x) + data(&x.data)).sum::<usize>()
+    3 + fixtures.iter().map(|x| head(x) + identifiers(x) + data(&x.data)).sum::<usize>()
 }
 
-kinds! {
-    caex::EnterShow, ENTER_SHOW,
-        |v, pen| pen.enter_show(&units(&v.name)),
-        Some(library::enter_show_size(&units(&v.name)));
-    caex::FixtureList<'_>, FIXTURE_LIST,
-        |v, pen| in_turn!(
-            pen.fixture_list_head(v.message_type.into(), v.fixtures.len()),
-            each(&v.fixtures, |fixture| give_fixture(fixture, pen))
-        ),
-        Some(fixture_list_size(v));
-    caex::FixtureRemove<'_>, FIXTURE_REMOVE,
-        |v, pen| pen.fixture_remove(&v.fixture_identifiers),
-        Some(library::fixture_remove_size(&v.fixture_identifiers));
-    caex::LaserFeedControl, LASER_FEED_CONTROL,
-        |v, pen| pen.laser_feed_control(v.feed_index, v.frame_rate),
-        Some(library::laser_feed_control_size());
-    caex::LaserFeedList<'_>, LASER_FEED_LIST,
-        |v, pen| in_turn!(
-            pen.laser_feed_list_head(v.source_key, v.feed_names.len()),
-            each(&v.feed_names, |name| pen.feed_name(&units(name)))
-        ),
-        None;
-    caex::LaserFeedFrame<'_>, LASER_FEED_FRAME,
-        |v, pen| in_turn!(
-            pen.laser_feed_frame_head(v.source_key, v.feed_index, v.frame_sequence, v.points.len()),
-            each(&v.points, |p| pen.laser_point(p.x_low_byte, p.y_low_byte, p.xy_high_nibbles, p.color))
-        ),
-        Some(library::laser_point_size()).map(|point| 11 + point * v.points.len());
-    sdmx::Capa<'_>, CAPA,
-        |v, pen| pen.capa(&v.capabilities),
-        Some(library::capa_size(&v.capabilities));
-    sdmx::UNam, UNAM,
-        |v, pen| pen.unam(v.universe_index, v.universe_name.as_bytes()),
-        Some(library::unam_size(&v.universe_name.as_bytes()));
-    sdmx::ChBk<'_>, CHBK,
-        |v, pen| pen.chbk(v.blind, v.universe_index, v.first_channel, &v.channel_levels),
-        Some(library::chbk_size(&v.channel_levels));
-    sdmx::ChLs<'_>, CHLS,
-        |v, pen| pen.chls(&levels(&v.channel_levels)),
-        Some(library::chls_size(v.channel_levels.len()));
-    sdmx::Sxus, SXUS,
-        |v, pen| pen.sxus(v.universe_index, v.connection_string.as_bytes()),
-        Some(library::sxus_size(&v.connection_string.as_bytes()));
-    fptc::Ptch, PTCH,
-        |v, pen| pen.ptch(
-            v.fixture_identifier, v.universe, v.reserved, v.channel, v.channel_count,
-            v.fixture_make.as_bytes(), v.fixture_name.as_bytes()
-        ),
-        Some(library::ptch_size(&v.fixture_make.as_bytes(), &v.fixture_name.as_bytes()));
-    fptc::UPtc<'_>, UPTC,
-        |v, pen| pen.uptc(&v.fixture_identifiers),
-        Some(library::uptc_size(&v.fixture_identifiers));
-    fptc::SPtc<'_>, SPTC,
-        |v, pen| pen.sptc(&v.fixture_identifiers),
-        Some(library::sptc_size(&v.fixture_identifiers));
-    fsel::Sele<'_>, SELE,
-        |v, pen| pen.sele(v.complete, v.reserved, &v.fixture_identifiers),
-        Some(library::sele_size(&v.fixture_identifiers));
-    fsel::DeSe<'_>, DESE,
-        |v, pen| pen.dese(&v.fixture_identifiers),
-        Some(library::dese_size(&v.fixture_identifiers));
-    finf::SFra<'_>, SFRA,
-        |v, pen| pen.sfra(&v.fixture_identifiers),
-        Some(library::sfra_size(&v.fixture_identifiers));
-    finf::Fram, FRAM,
-        |v, pen| pen.fram(
-            v.fixture_identifier, v.frame_filter_count, v.frame_gobo_count, v.frame_names.as_bytes()
-        ),
-        Some(library::fram_size(&v.frame_names.as_bytes()));
-    pinf::PNam, PNAM,
-        |v, pen| pen.pnam(v.name.as_bytes()),
-        Some(library::pnam_size(&v.name.as_bytes()));
-    pinf::PLoc, PLOC,
-        |v, pen| pen.ploc(v.listening_tcp_port, v.kind.as_bytes(), v.name.as_bytes(), v.state.as_bytes()),
-        Some(library::ploc_size(&v.kind.as_bytes(), &v.name.as_bytes(), &v.state.as_bytes()));
+/// Channel levels as our call takes them.
+pub fn levels(list: &[sdmx::ChannelLevel]) -> Vec<library::ChannelLevel> {
+    let record = |level| {
+        let (universe_index, channel, channel_level) = level_fields(level);
+        library::ChannelLevel { universe_index, channel, channel_level }
+    };
+    list.iter().map(record).collect()
 }
+
+fn give_chls<P: Pen>(pen: &mut P, list: &[sdmx::ChannelLevel]) -> u8 {
+    pen.chls(&levels(list))
+}
+
+fn chls_size(list: &[sdmx::ChannelLevel]) -> usize {
+    library::chls_size(list.len())
+}
+
+fn give_feed_list<P: Pen>(pen: &mut P, source_key: u32, feed_names: &[Ucs2]) -> u8 {
+    in_turn!(
+        pen.laser_feed_list_head(source_key, feed_names.len()),
+        each(feed_names, |name| pen.feed_name(&units(name)))
+    )
+}
+
+/// For a kind of whose size we have no function.
+fn no_size<T>(_: &[T]) -> Option<usize> {
+    None
+}
+
+fn give_frame<P: Pen>(
+    pen: &mut P,
+    source_key: u32,
+    feed_index: u8,
+    frame_sequence: u32,
+    points: &[caex::LaserPoint],
+) -> u8 {
+    in_turn!(
+        pen.laser_feed_frame_head(source_key, feed_index, frame_sequence, points.len()),
+        each(points, |p| pen.laser_point(p.x_low_byte, p.y_low_byte, p.xy_high_nibbles, p.color))
+    )
+}
+
+fn frame_size(points: &[caex::LaserPoint]) -> usize {
+    11 + library::laser_point_size() * points.len()
+}
+
+macro_rules! given {
+    ($($layer:ident::$name:ident $(<$life:lifetime>)?, $kind:ident $(, $read:ident, $shape:tt)? {
+        ($($number:ident),*), ($($field:ident $(: $part:ident $ends:tt $(counted by $count:ident)?)?),*), $give:path, $size:path
+    })*) => { $(
+        impl Given for $layer::$name $(<$life>)? {
+            const KIND: u8 = library::$kind;
+            type Layer = $layer::Header;
+
+            fn content_type() -> u32 {
+                ContentType::code($layer::$name::CONTENT_TYPE)
+            }
+
+            fn give<P: Pen>(&self, pen: &mut P) -> u8 {
+                $give(pen, $(self.$number,)* $(&self.$field.lent()),*)
+            }
+
+            fn size(&self) -> Option<usize> {
+                $size($(&self.$field.lent()),*).into()
+            }
+        }
+    )* };
+}
+kinds!(given);
+laser_feeds!(given);

@@ -2,6 +2,7 @@
 mod bodies;
 mod canon;
 mod compare;
+mod compared;
 mod departures;
 mod given;
 mod kinds;

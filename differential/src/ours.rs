@@ -1,5 +1,6 @@
 //! Our readers: the canonical bytes of what the archive answers.
 use crate::canon::{self, Canon};
+use crate::kinds::kinds;
 use crate::library;
 use crate::plant;
 use citp::protocol::{caex, finf, fptc, fsel, pinf, sdmx, Header};
@@ -28,7 +29,8 @@ fn part(body: &[u8], start: usize, len: usize) -> Option<&[u8]> {
     body.get(start..)?.get(..len)
 }
 
-/// The elements of a string before the zero, or of a list: 13 into one element less, which stay as they were, then copied into exactly so many.
+/// The elements of a string before the zero, or of a list: 13 into one element less, which stay as they were, then
+/// copied into exactly so many.
 fn copied<T: Copy + Default + PartialEq>(len: usize, copy: impl Fn(&mut [T]) -> library::Copied) -> Option<Vec<T>> {
     let mut out = vec![T::default(); len];
     if len > 0 {
@@ -182,51 +184,55 @@ fn u32_list(body: &[u8], at: usize, left: u16) -> Numbers<'_, library::U32Next, 
 
 // ---- bodies
 
+/// An answer of the same type, with nothing in it.
+fn nothing<T: Default>(_: &T) -> T {
+    T::default()
+}
+
+/// What a reader answers on a body; the block puts out the fields of a body that was read.
+macro_rules! answer {
+    ($read:ident, $body:ident, $out:ident, |$m:ident| $fields:block) => {{
+        let $m = library::$read($body);
+        let mut refused = nothing(&$m);
+        refused.number = $m.number;
+        if $m.number == 0 {
+            $fields
+        } else if $m != refused {
+            $out.extend_from_slice(b"a refused answer holds more than its number");
+        }
+        plant::answer(stringify!($read), Answer { number: $m.number, taken: $m.taken })
+    }};
+}
+
 macro_rules! readers {
-    ($($t:ty, $read:ident, $answer:ident, |$m:ident, $body:ident| $($field:expr),*;)*) => { $(impl Ours for $t {
-        fn read_ours($body: &[u8], out: &mut Vec<u8>) -> Answer {
-            let $m = library::$read($body);
-            if $m.number == 0 {
-                $($field.canon(out);)*
-            } else if $m != (library::$answer { number: $m.number, ..Default::default() }) {
-                out.extend_from_slice(b"a refused answer holds more than its number");
-            }
-            plant::answer(stringify!($read), Answer { number: $m.number, taken: $m.taken })
+    ($($t:ty, $kind:ident, $read:ident, $shape:tt {
+        ($($number:ident),*), ($($field:ident: $part:ident($at:ident, $len:ident) $(counted by $count:ident)?),*),
+        $give:path, $size:path
+    })*) => { $(impl Ours for $t {
+        fn read_ours(body: &[u8], out: &mut Vec<u8>) -> Answer {
+            answer!($read, body, out, |m| {
+                $(m.$number.canon(out);)*
+                $(
+                    $(let $count = m.$len; $count.canon(out);)?
+                    $part(body, m.$at, m.$len).canon(out);
+                )*
+            })
         }
     })* };
 }
-readers! {
-    caex::EnterShow, enter_show_read, StringBody, |m, body| Ucs2(body, m.start, m.len);
-    caex::FixtureList<'_>, fixture_list_read, FixtureList, |m, body|
-        m.message_type, m.fixtures_left, fixtures(body, m.fixtures_at, m.fixtures_left);
-    caex::FixtureRemove<'_>, fixture_remove_read, ListBody, |m, body| m.left, u32_list(body, m.at, m.left);
-    caex::LaserFeedControl, laser_feed_control_read, LaserFeedControl, |m, body| m.feed_index, m.frame_rate;
-    sdmx::Capa<'_>, capa_read, ListBody, |m, body| u16_list(body, m.at, m.left);
-    sdmx::UNam, unam_read, UniverseString, |m, body|
-        m.universe_index, CString(body, m.string_start, m.string_len);
-    sdmx::ChBk<'_>, chbk_read, Chbk, |m, body|
-        m.blind, m.universe_index, m.first_channel, Block(body, m.channel_levels_start, m.channel_levels_len);
-    sdmx::ChLs<'_>, chls_read, ListBody, |m, body| channel_levels(body, m.at, m.left);
-    sdmx::Sxus, sxus_read, UniverseString, |m, body|
-        m.universe_index, CString(body, m.string_start, m.string_len);
-    fptc::Ptch, ptch_read, Ptch, |m, body|
-        m.fixture_identifier, m.universe, m.reserved, m.channel, m.channel_count,
-        CString(body, m.fixture_make_start, m.fixture_make_len),
-        CString(body, m.fixture_name_start, m.fixture_name_len);
-    fptc::UPtc<'_>, uptc_read, ListBody, |m, body| u16_list(body, m.at, m.left);
-    fptc::SPtc<'_>, sptc_read, ListBody, |m, body| u16_list(body, m.at, m.left);
-    fsel::Sele<'_>, sele_read, Sele, |m, body|
-        m.complete, m.reserved, u16_list(body, m.fixture_identifiers_at, m.fixture_identifiers_left);
-    fsel::DeSe<'_>, dese_read, ListBody, |m, body| u16_list(body, m.at, m.left);
-    finf::SFra<'_>, sfra_read, ListBody, |m, body| u16_list(body, m.at, m.left);
-    finf::Fram, fram_read, Fram, |m, body|
-        m.fixture_identifier, m.frame_filter_count, m.frame_gobo_count,
-        CString(body, m.frame_names_start, m.frame_names_len);
-    pinf::PNam, pnam_read, StringBody, |m, body| CString(body, m.start, m.len);
-    pinf::PLoc, ploc_read, Ploc, |m, body|
-        m.listening_tcp_port, CString(body, m.kind_start, m.kind_len), CString(body, m.name_start, m.name_len),
-        CString(body, m.state_start, m.state_len);
-    Header, header_read, Header, |m, body|
-        m.cookie, m.version_major, m.version_minor, m.request_index, m.message_size, m.message_part_count,
-        m.message_part, m.content_type;
+kinds!(readers);
+
+impl Ours for Header {
+    fn read_ours(body: &[u8], out: &mut Vec<u8>) -> Answer {
+        answer!(header_read, body, out, |m| {
+            m.cookie.canon(out);
+            m.version_major.canon(out);
+            m.version_minor.canon(out);
+            m.request_index.canon(out);
+            m.message_size.canon(out);
+            m.message_part_count.canon(out);
+            m.message_part.canon(out);
+            m.content_type.canon(out);
+        })
+    }
 }

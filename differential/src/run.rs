@@ -1,5 +1,5 @@
 //! The differential run: jobs with seeds of their own, taken by as many threads as there are cores.
-use crate::kinds::KINDS;
+use crate::compared::KINDS;
 use crate::random::Random;
 use crate::refusals;
 use crate::tally::{hex, Tally};

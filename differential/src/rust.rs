@@ -1,49 +1,31 @@
 //! The kinds of the Rust, and what it answers on a body.
-use crate::bodies::Part;
+use crate::bodies::Part::{self, *};
 use crate::canon::Canon;
+use crate::kinds::kinds;
 use citp::protocol::{self, caex, finf, fptc, fsel, pinf, sdmx, ReadFromBytes, SizeBytes, WriteToBytes};
 use std::cell::Cell;
 use std::io::{Cursor, ErrorKind};
 use std::panic::{catch_unwind, AssertUnwindSafe};
 
-/// A type that is read: its name, what its bodies are made of, and the bytes of its short bodies.
+/// A type that is read: its name, and what its bodies are made of.
 pub trait Body: ReadFromBytes + WriteToBytes + SizeBytes + Canon {
     const NAME: &'static str;
     const SHAPE: &'static [Part];
-    const ALPHABET: [u8; 7];
 }
-
-const NUMBERS: [u8; 7] = [0x00, 0x01, 0x02, 0x03, 0x65, 0x80, 0xFF];
-const STRINGS: [u8; 7] = [0x00, 0x01, 0x03, 0x41, 0x80, 0xD8, 0xFF];
-const CODES: [u8; 7] = [0x00, 0x01, 0x02, 0x03, 0x06, 0x41, 0xFF];
 
 macro_rules! bodies {
-    ($($t:ty, $name:literal, $alphabet:ident, $shape:expr;)*) => { $(impl Body for $t {
-        const NAME: &'static str = $name;
-        const SHAPE: &'static [Part] = &$shape;
-        const ALPHABET: [u8; 7] = $alphabet;
-    })* };
+    ($($layer:ident::$name:ident $(<$life:lifetime>)?, $kind:ident, $read:ident, $shape:tt $rest:tt)*) => { $(
+        impl Body for $layer::$name $(<$life>)? {
+            const NAME: &'static str = stringify!($name);
+            const SHAPE: &'static [Part] = &$shape;
+        }
+    )* };
 }
-bodies! {
-    caex::EnterShow, "EnterShow", STRINGS, [Part::Ucs2];
-    caex::FixtureList<'static>, "FixtureList", CODES, [Part::Code(3), Part::Fixtures];
-    caex::FixtureRemove<'static>, "FixtureRemove", NUMBERS, [Part::List(4)];
-    caex::LaserFeedControl, "LaserFeedControl", NUMBERS, [Part::Bytes(2)];
-    sdmx::Capa<'static>, "Capa", NUMBERS, [Part::List(2)];
-    sdmx::UNam, "UNam", STRINGS, [Part::Bytes(1), Part::CString];
-    sdmx::ChBk<'static>, "ChBk", NUMBERS, [Part::Bytes(4), Part::List(1)];
-    sdmx::ChLs<'static>, "ChLs", NUMBERS, [Part::List(4)];
-    sdmx::Sxus, "Sxus", STRINGS, [Part::Bytes(1), Part::CString];
-    fptc::Ptch, "Ptch", STRINGS, [Part::Bytes(8), Part::CString, Part::CString];
-    fptc::UPtc<'static>, "UPtc", NUMBERS, [Part::List(2)];
-    fptc::SPtc<'static>, "SPtc", NUMBERS, [Part::List(2)];
-    fsel::Sele<'static>, "Sele", NUMBERS, [Part::Bytes(2), Part::List(2)];
-    fsel::DeSe<'static>, "DeSe", NUMBERS, [Part::List(2)];
-    finf::SFra<'static>, "SFra", NUMBERS, [Part::List(2)];
-    finf::Fram, "Fram", STRINGS, [Part::Bytes(4), Part::CString];
-    pinf::PNam, "PNam", STRINGS, [Part::CString];
-    pinf::PLoc, "PLoc", STRINGS, [Part::Bytes(2), Part::CString, Part::CString, Part::CString];
-    protocol::Header, "Header", NUMBERS, [Part::Bytes(20)];
+kinds!(bodies);
+
+impl Body for protocol::Header {
+    const NAME: &'static str = "Header";
+    const SHAPE: &'static [Part] = &[Bytes(20)];
 }
 
 pub enum Answer<T> {

@@ -1,11 +1,11 @@
-//! Stored samples of the Rust's answers: records for crates/replay, packets for examples/rewrite.c. A record: the length of what follows (u16), the kind's
-//! place in the list of kinds (u8), the body's length (u16), the body, the refusal that is due (u8; 0: read, 7: 7 or
-//! 8) and, if it is to be read, the bytes taken (u32) and the canonical bytes. Numbers are little-endian. The Rust
-//! writes each value read again as the bytes taken.
+//! Stored samples of the Rust's answers: records for crates/replay, packets for examples/rewrite.c. A record: the length
+//! of what follows (u16), the kind's place in the list of kinds (u8), the body's length (u16), the body, the refusal
+//! that is due (u8; 0: read, 7: 7 or 8) and, if it is to be read, the bytes taken (u32) and the canonical bytes. Numbers
+//! are little-endian. The Rust writes each value read again as the bytes taken.
 use crate::bodies::{damage, good, Size};
 use crate::canon::{written, Canon};
 use crate::compare::due;
-use crate::kinds::KINDS;
+use crate::compared::KINDS;
 use crate::random::Random;
 use crate::rust::{read, Answer, Body};
 use crate::writing::Writes;
