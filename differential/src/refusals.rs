@@ -1,10 +1,8 @@
 //! Calls that are to be refused: the number, and output and state as they were.
 use crate::library::{self, ChannelLevel, FixtureData};
-use crate::pens::{Alone, At, Packet, Pen};
+use crate::pens::{Alone, At, Call, Packet, Pen, BODIES, ITEMS};
 use crate::tally::Tally;
 use crate::writing::{blank, holds};
-
-type Call = fn(&mut dyn Pen) -> u8;
 
 /// Where a call is in turn: the kind that the packet is opened with, and the calls before it.
 #[derive(Clone, Copy)]
@@ -23,6 +21,8 @@ const fn body(kind: u8) -> Place {
     Place(kind, &[])
 }
 
+/// The first number that no kind has.
+const NO_KIND: u8 = BODIES.len() as u8;
 /// Bytes of the output.
 const ROOM: usize = 4_096;
 /// One more than a u16 count says.
@@ -178,45 +178,12 @@ fn counts_and_codes(c: &mut Calls) {
     }
 }
 
-/// For each kind the call of its body or head, with the least that it takes.
-const BODIES: [Call; 20] = [
-    |pen| pen.enter_show(&[]),
-    |pen| pen.fixture_list_head(0, 0),
-    |pen| pen.fixture_remove(&[]),
-    |pen| pen.laser_feed_control(1, 2),
-    |pen| pen.capa(&[]),
-    |pen| pen.unam(1, &[]),
-    |pen| pen.chbk(1, 2, 3, &[]),
-    |pen| pen.chls(&[]),
-    |pen| pen.sxus(1, &[]),
-    |pen| pen.ptch(1, 2, 3, 4, 5, &[], &[]),
-    |pen| pen.uptc(&[]),
-    |pen| pen.sptc(&[]),
-    |pen| pen.sele(1, 2, &[]),
-    |pen| pen.dese(&[]),
-    |pen| pen.sfra(&[]),
-    |pen| pen.fram(1, 2, 3, &[]),
-    |pen| pen.pnam(&[]),
-    |pen| pen.ploc(1, &[], &[], &[]),
-    |pen| pen.laser_feed_list_head(1, 0),
-    |pen| pen.laser_feed_frame_head(1, 2, 3, 0),
-];
-
-/// Items of lists, which no head declared.
-const ITEMS: [Call; 5] = [
-    |pen| pen.fixture_head(1, &[], &[], &[], 2, 3, 0),
-    |pen| pen.identifier(0, &[]),
-    |pen| pen.fixture_data(data(), &[], &[], &[]),
-    |pen| pen.feed_name(&[]),
-    |pen| pen.laser_point(1, 2, 3, 4),
-];
-
 /// Every call on a fresh writer, in a packet of another kind, behind a whole body and in a closed packet.
 fn out_of_turn(c: &mut Calls, kind: u8) {
     let mut out = blank(ROOM);
     let mut packet = Packet::new(&mut out);
     let give = BODIES[kind as usize];
-    let all = || BODIES.iter().chain(&ITEMS);
+    let all = || BODIES.iter().chain(ITEMS);
     all().for_each(|call| c.in_packet("a call on a fresh writer", 14, &mut packet, |packet| call(packet)));
     c.in_packet("close of a fresh writer", 14, &mut packet, |packet| packet.close());
     assert_eq!(packet.open(kind, 1, 2), 0);
@@ -238,7 +205,7 @@ fn made_up_states(c: &mut Calls, kind: u8) {
     let states = [
         (library::TURN_BODY, kind, 0),
         (library::TURN_BODY, kind, headers - 1),
-        (library::TURN_BODY, 20, headers),
+        (library::TURN_BODY, NO_KIND, headers),
         (library::TURN_BODY, 255, headers),
         (4, kind, headers),
         (255, kind, headers),
@@ -274,7 +241,7 @@ fn open_short(c: &mut Calls, kind: u8) {
 }
 
 fn kinds(c: &mut Calls) {
-    for kind in library::ENTER_SHOW..=library::LASER_FEED_FRAME {
+    for kind in 0..NO_KIND {
         out_of_turn(c, kind);
         made_up_states(c, kind);
         open_short(c, kind);
@@ -282,7 +249,7 @@ fn kinds(c: &mut Calls) {
     }
     c.at_limit("a laser point at the limit", POINT, &|pen| pen.laser_point(1, 2, 3, 4));
     let mut out = blank(ROOM);
-    c.in_packet("open for a kind above 19", 14, &mut Packet::new(&mut out), |packet| packet.open(20, 1, 2));
+    c.in_packet("open for no kind", 14, &mut Packet::new(&mut out), |packet| packet.open(NO_KIND, 1, 2));
 }
 
 pub fn compare(tally: &mut Tally) {
