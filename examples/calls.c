@@ -83,7 +83,8 @@ static void is_numbers(citp_list_body r) {
     citp_u16_next n = citp_u16_list_next(body, len, r.at, r.left);
     CHECK(n.number == 0 && n.given == 1 && n.value == 0x0102 && n.at == 4 && n.left == 2);
     uint16_t all[3];
-    CHECK(citp_u16_list_copy(body, len, r.at, r.left, all, 2).number == 13 && citp_u16_list_copy(body, 7, r.at, r.left, all, 3).number == 7);
+    CHECK(citp_u16_list_copy(body, len, r.at, r.left, all, 2).number == 13);
+    CHECK(citp_u16_list_copy(body, 7, r.at, r.left, all, 3).number == 7);
     citp_copied c = citp_u16_list_copy(body, len, r.at, r.left, all, 3);
     CHECK(c.number == 0 && c.len == 3 && memcmp(all, numbers, sizeof numbers) == 0);
 }
@@ -167,7 +168,9 @@ static void read_others(uint8_t kind) {
     } else if (kind == CITP_SPTC) {
         is_list(citp_sptc_read(body, len), 2, 0);
     } else {
-        is_numbers(kind == CITP_UPTC ? citp_uptc_read(body, len) : kind == CITP_DESE ? citp_dese_read(body, len) : citp_sfra_read(body, len));
+        is_numbers(kind == CITP_UPTC   ? citp_uptc_read(body, len)
+                   : kind == CITP_DESE ? citp_dese_read(body, len)
+                                       : citp_sfra_read(body, len));
     }
 }
 
@@ -209,7 +212,8 @@ int main(void) {
     CHECK(s.report == CITP_END && s.number == 0 && s.offset == end && s.next == end);
     citp_writer none = {9, 99, 0x0102, 3, 0x04050607};
     citp_written r = citp_writer_close(none, stream, sizeof stream);
-    CHECK(r.number == 14 && r.writer.turn == 9 && r.writer.kind == 99 && r.writer.items == 0x0102 && r.writer.identifiers == 3 && r.writer.at == 0x04050607);
+    CHECK(r.number == 14 && r.writer.turn == 9 && r.writer.kind == 99);
+    CHECK(r.writer.items == 0x0102 && r.writer.identifiers == 3 && r.writer.at == 0x04050607);
     counts();
     printf("18 kinds written, walked and read back\n");
     return 0;

@@ -1,4 +1,5 @@
-/* Walks a stored stream and writes each message again, through the packet writer and out of the fields read: every packet must be as it was, byte for byte.
+/* Walks a stored stream and writes each message again, through the packet writer and out of the fields read: every packet must be as it
+ * was, byte for byte.
  * packets.citp holds packets of every kind that the Rust wrote (differential/sample makes it). */
 #include <stdio.h>
 #include <stdlib.h>

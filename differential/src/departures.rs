@@ -398,7 +398,10 @@ fn kept(bits: u32) -> bool {
 }
 
 pub fn show_all() {
-    println!("docs/DIFFERENCES.md by its numbers: each input, what the Rust does, what ours does. Values are canonical bytes (differential/src/canon.rs).");
+    println!(
+        "docs/DIFFERENCES.md by its numbers: each input, what the Rust does, what ours does. Values are canonical bytes \
+         (differential/src/canon.rs)."
+    );
     reading();
     zero_in_strings();
     counts_cut();
