@@ -111,6 +111,7 @@ pub data Form : Kind → Type 0 where
   names : Form kind.LaserFeedList
   points : Form kind.LaserFeedFrame
 
+-- the form of each kind's body
 abbrev pub form : (k : Kind) → Form k
 form kind.EnterShow = flat
 form kind.FixtureList = fixtures
@@ -133,19 +134,21 @@ form kind.PLoc = flat
 form kind.LaserFeedList = names
 form kind.LaserFeedFrame = points
 
+-- whether that is in one call
 abbrev pub isFlatForm : {k : Kind} → Form k → Bool
 isFlatForm flat = true
 isFlatForm fixtures = false
 isFlatForm names = false
 isFlatForm points = false
 
--- the parts in which a value of a kind's body is given
+-- the parts in which a value of a body of such a form is given
 abbrev pub partsIn : {k : Kind} → Form k → Value (bodyOf k) → List Part
 partsIn {k} flat v = body k v ∷ []
 partsIn fixtures v = fixtureList (v .0) (length (v .1)) ∷ concatMap fixtureParts (v .1)
 partsIn names v = laserFeedList (v .0) (length (v .1)) ∷ map feedName (v .1)
 partsIn points v = laserFeedFrame (v .0) (v .1 .0) (v .1 .1 .0) (length (v .1 .1 .1)) ∷ map laserPoint (v .1 .1 .1)
 
+-- the parts in which a value of a kind's body is given
 abbrev pub partsOf : (k : Kind) → Value (bodyOf k) → List Part
 partsOf k v = partsIn (form k) v
 
