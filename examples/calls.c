@@ -69,6 +69,20 @@ static void write_others(void) {
     open(CITP_PLOC), taken(citp_writer_ploc(w, out(), room(), 0x0102, TEXT("k"), TEXT("nn"), TEXT("sss"))), close();
 }
 
+static void write_feeds(void) {
+    open(CITP_LASER_FEED_LIST);
+    CHECK(citp_writer_laser_feed_list_head(w, out(), room(), 1, 256).number == 12);
+    taken(citp_writer_laser_feed_list_head(w, out(), room(), 0x01020304, 2));
+    taken(citp_writer_feed_name(w, out(), room(), UNITS(units)));
+    taken(citp_writer_feed_name(w, out(), room(), NULL, 0));
+    close();
+    open(CITP_LASER_FEED_FRAME);
+    taken(citp_writer_laser_feed_frame_head(w, out(), room(), 0x01020304, 5, 0x06070809, 2));
+    taken(citp_writer_laser_point(w, out(), room(), 1, 2, 3, 0x0405));
+    taken(citp_writer_laser_point(w, out(), room(), 6, 7, 8, 0x090A));
+    close();
+}
+
 /* ---- reading; a message's body, and how many bytes it takes */
 
 static const uint8_t *body;
@@ -174,6 +188,43 @@ static void read_others(uint8_t kind) {
     }
 }
 
+static void read_feed_list(citp_laser_feed_list r) {
+    CHECK(r.number == 0 && r.taken == 13 && r.source_key == 0x01020304 && r.feed_names_at == 5 && r.feed_names_left == 2);
+    citp_feed_name_next n = citp_feed_names_next(body, len, r.feed_names_at, r.feed_names_left);
+    CHECK(n.number == 0 && n.given == 1 && n.start == 5 && n.len == 2 && n.at == 11 && n.left == 1);
+    uint16_t name[2];
+    CHECK(citp_copy_ucs2(body, len, n.start, name, 2).len == 2 && memcmp(name, units, sizeof units) == 0);
+    n = citp_feed_names_next(body, len, n.at, n.left);
+    CHECK(n.number == 0 && n.given == 1 && n.start == 11 && n.len == 0 && n.at == 13 && n.left == 0);
+    CHECK(citp_feed_names_next(body, len, n.at, n.left).given == 0 && citp_feed_names_next(body, len, n.at, 1).number == 8);
+    CHECK(citp_laser_feed_list_read(body, len - 1).number == 8 && citp_laser_feed_list_read(body, 4).number == 7);
+}
+
+static void is_point(citp_laser_point p, uint8_t x, uint8_t y, uint8_t high, uint16_t color) {
+    CHECK(p.x_low_byte == x && p.y_low_byte == y && p.xy_high_nibbles == high && p.color == color);
+}
+
+static void read_feed_frame(citp_laser_feed_frame r) {
+    CHECK(r.number == 0 && r.taken == 21 && r.source_key == 0x01020304 && r.feed_index == 5 && r.frame_sequence == 0x06070809);
+    CHECK(r.points_at == 11 && r.points_left == 2);
+    citp_laser_point_next n = citp_laser_points_next(body, len, r.points_at, r.points_left);
+    CHECK(n.number == 0 && n.given == 1 && n.at == 16 && n.left == 1);
+    is_point(n.value, 1, 2, 3, 0x0405);
+    n = citp_laser_points_next(body, len, n.at, n.left);
+    CHECK(n.number == 0 && n.given == 1 && n.at == 21 && n.left == 0);
+    is_point(n.value, 6, 7, 8, 0x090A);
+    CHECK(citp_laser_points_next(body, len, n.at, n.left).given == 0 && citp_laser_points_next(body, len, n.at, 1).number == 7);
+    CHECK(citp_laser_feed_frame_read(body, len - 1).number == 7);
+}
+
+static void read_feeds(uint8_t kind) {
+    if (kind == CITP_LASER_FEED_LIST) {
+        read_feed_list(citp_laser_feed_list_read(body, len));
+    } else {
+        read_feed_frame(citp_laser_feed_frame_read(body, len));
+    }
+}
+
 static void read_packet(citp_step s, uint8_t kind) {
     CHECK(s.report == CITP_MESSAGE && s.number == 0 && s.kind == kind && s.request_index == 7 && s.added == 0);
     CHECK(s.next == s.offset + s.size && s.body_start + s.body_len == s.next);
@@ -187,7 +238,10 @@ static void read_packet(citp_step s, uint8_t kind) {
     CHECK(p.number == 0 && p.at == 20 && memcmp(again, stream + s.offset, 20) == 0);
     body = stream + s.body_start;
     len = s.body_len;
-    kind <= CITP_LASER_FEED_CONTROL ? read_caex(kind) : kind <= CITP_SXUS ? read_sdmx(kind) : read_others(kind);
+    kind <= CITP_LASER_FEED_CONTROL ? read_caex(kind)
+    : kind <= CITP_SXUS             ? read_sdmx(kind)
+    : kind <= CITP_PLOC             ? read_others(kind)
+                                    : read_feeds(kind);
 }
 
 /* The largest counts stand in the state. */
@@ -203,9 +257,9 @@ static void counts(void) {
 
 int main(void) {
     w = citp_writer_new();
-    write_caex(), write_sdmx(), write_others();
+    write_caex(), write_sdmx(), write_others(), write_feeds();
     citp_step s = citp_walk_step(stream, end, 0);
-    for (uint8_t kind = 0; kind <= CITP_PLOC; kind++) {
+    for (uint8_t kind = 0; kind <= CITP_LASER_FEED_FRAME; kind++) {
         read_packet(s, kind);
         s = citp_walk_step(stream, end, s.next);
     }
@@ -215,6 +269,6 @@ int main(void) {
     CHECK(r.number == 14 && r.writer.turn == 9 && r.writer.kind == 99);
     CHECK(r.writer.items == 0x0102 && r.writer.identifiers == 3 && r.writer.at == 0x04050607);
     counts();
-    printf("18 kinds written, walked and read back\n");
+    printf("20 kinds written, walked and read back\n");
     return 0;
 }

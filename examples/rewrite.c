@@ -140,6 +140,24 @@ static void give_finf_or_pinf(uint8_t kind) {
     }
 }
 
+static void give_feed_list(citp_laser_feed_list x) {
+    given(citp_writer_laser_feed_list_head(w, out, ROOM, x.source_key, x.feed_names_left));
+    citp_feed_name_next n = citp_feed_names_next(body, len, x.feed_names_at, x.feed_names_left);
+    while (n.given) {
+        given(citp_writer_feed_name(w, out, ROOM, UNITS(units[0], n.start)));
+        n = citp_feed_names_next(body, len, n.at, n.left);
+    }
+}
+
+static void give_feed_frame(citp_laser_feed_frame x) {
+    given(citp_writer_laser_feed_frame_head(w, out, ROOM, x.source_key, x.feed_index, x.frame_sequence, x.points_left));
+    citp_laser_point_next n = citp_laser_points_next(body, len, x.points_at, x.points_left);
+    while (n.given) {
+        given(citp_writer_laser_point(w, out, ROOM, n.value.x_low_byte, n.value.y_low_byte, n.value.xy_high_nibbles, n.value.color));
+        n = citp_laser_points_next(body, len, n.at, n.left);
+    }
+}
+
 /* ---- a packet */
 
 static int is_same(citp_step s) {
@@ -157,8 +175,12 @@ static int is_same(citp_step s) {
         give_sdmx(s.kind);
     } else if (s.kind <= CITP_DESE) {
         give_fptc_or_fsel(s.kind);
-    } else {
+    } else if (s.kind <= CITP_PLOC) {
         give_finf_or_pinf(s.kind);
+    } else if (s.kind == CITP_LASER_FEED_LIST) {
+        give_feed_list(citp_laser_feed_list_read(body, len));
+    } else {
+        give_feed_frame(citp_laser_feed_frame_read(body, len));
     }
     citp_written closed = citp_writer_close(w, out, ROOM);
     given(closed);
@@ -173,7 +195,7 @@ int main(int argc, char **argv) {
     }
     size_t end = fread(stream, 1, sizeof stream, file);
     fclose(file);
-    unsigned messages[CITP_PLOC + 1] = {0}, packets = 0, same = 0, kinds = 0;
+    unsigned messages[CITP_LASER_FEED_FRAME + 1] = {0}, packets = 0, same = 0, kinds = 0;
     citp_step s = citp_walk_step(stream, end, 0);
     while (s.report != CITP_END) {
         packets++;

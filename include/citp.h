@@ -37,7 +37,7 @@
 extern "C" {
 #endif
 
-/* ---- kinds of message; the last two are written only */
+/* ---- kinds of message */
 
 #define CITP_ENTER_SHOW 0
 #define CITP_FIXTURE_LIST 1
@@ -77,7 +77,7 @@ extern "C" {
 typedef struct {
     uint8_t report; /* CITP_END to CITP_REFUSED */
     uint8_t number; /* of the end, 0 at the stream's end, else 1 to 5; of a refused packet, 6 to 10; else 0 */
-    uint8_t kind;   /* of a message: CITP_ENTER_SHOW to CITP_PLOC */
+    uint8_t kind;   /* of a message: CITP_ENTER_SHOW to CITP_LASER_FEED_FRAME */
     uint16_t request_index;
     uint16_t part;
     uint16_t part_count;
@@ -220,6 +220,24 @@ typedef struct {
     size_t state_len;
 } citp_ploc;
 
+typedef struct {
+    uint8_t number;
+    uint8_t feed_names_left;
+    uint32_t source_key;
+    size_t taken;
+    size_t feed_names_at;
+} citp_laser_feed_list;
+
+typedef struct {
+    uint8_t number;
+    uint8_t feed_index;
+    uint16_t points_left;
+    uint32_t source_key;
+    uint32_t frame_sequence;
+    size_t taken;
+    size_t points_at;
+} citp_laser_feed_frame;
+
 citp_string_body citp_enter_show_read(const uint8_t *body, size_t body_len); /* a Ucs2 string: name */
 citp_fixture_list citp_fixture_list_read(const uint8_t *body, size_t body_len);
 citp_list_body citp_fixture_remove_read(const uint8_t *body, size_t body_len); /* a list of u32: fixture_identifiers */
@@ -238,6 +256,8 @@ citp_list_body citp_sfra_read(const uint8_t *body, size_t body_len); /* a list o
 citp_fram citp_fram_read(const uint8_t *body, size_t body_len);
 citp_string_body citp_pnam_read(const uint8_t *body, size_t body_len); /* a CString: name */
 citp_ploc citp_ploc_read(const uint8_t *body, size_t body_len);
+citp_laser_feed_list citp_laser_feed_list_read(const uint8_t *body, size_t body_len);
+citp_laser_feed_frame citp_laser_feed_frame_read(const uint8_t *body, size_t body_len);
 
 /* ---- lists stepped through: `given` is 1 with an item and the cursor behind it; else the list is done, or refused.
  * A list that was read meets no refusal, a made-up cursor may. */
@@ -322,11 +342,39 @@ typedef struct {
     size_t data_len;
 } citp_identifier_next;
 
+/* The name is a Ucs2 string: `start` and `len`. */
+typedef struct {
+    uint8_t number;
+    uint8_t given;
+    uint8_t left;
+    size_t at;
+    size_t start;
+    size_t len;
+} citp_feed_name_next;
+
+/* xy_high_nibbles has that of x in its low nibble, that of y in its high one; color is R5 G6 B5. */
+typedef struct {
+    uint8_t x_low_byte;
+    uint8_t y_low_byte;
+    uint8_t xy_high_nibbles;
+    uint16_t color;
+} citp_laser_point;
+
+typedef struct {
+    uint8_t number;
+    uint8_t given;
+    uint16_t left;
+    citp_laser_point value;
+    size_t at;
+} citp_laser_point_next;
+
 citp_u16_next citp_u16_list_next(const uint8_t *body, size_t body_len, size_t at, uint16_t left);
 citp_u32_next citp_u32_list_next(const uint8_t *body, size_t body_len, size_t at, uint16_t left);
 citp_channel_level_next citp_channel_levels_next(const uint8_t *body, size_t body_len, size_t at, uint16_t left);
 citp_fixture_next citp_fixtures_next(const uint8_t *body, size_t body_len, size_t at, uint16_t left);
 citp_identifier_next citp_identifiers_next(const uint8_t *body, size_t body_len, size_t at, uint8_t left);
+citp_feed_name_next citp_feed_names_next(const uint8_t *body, size_t body_len, size_t at, uint8_t left);
+citp_laser_point_next citp_laser_points_next(const uint8_t *body, size_t body_len, size_t at, uint16_t left);
 
 /* ---- strings and lists of numbers copied out of a body: a string from its start up to the zero, which is not copied,
  * a list whole */

@@ -1,7 +1,8 @@
 //! Bodies, values and streams that both sides get.
 use crate::bodies::Part;
 use crate::given::{Given, Layer};
-use citp::protocol::{self, ReadFromBytes};
+use crate::rust::Body;
+use citp::protocol;
 
 /// The elements of each string and of each list of a body.
 #[derive(Clone, Copy)]
@@ -10,13 +11,15 @@ pub struct Size {
     pub list: usize,
     pub block: usize,
     pub lamps: usize,
+    pub feeds: usize,
+    pub points: usize,
 }
 
-pub const SMALL: Size = Size { string: 0, list: 0, block: 0, lamps: 1 };
+pub const SMALL: Size = Size { string: 0, list: 0, block: 0, lamps: 1, feeds: 0, points: 0 };
 /// A venue of 100 lamps.
-const TYPICAL: Size = Size { string: 12, list: 100, block: 512, lamps: 100 };
+const TYPICAL: Size = Size { string: 12, list: 100, block: 512, lamps: 100, feeds: 4, points: 500 };
 /// The most that a count holds; strings as long; a packet of 1,000 lamps.
-const LARGEST: Size = Size { string: 65_535, list: 65_535, block: 65_535, lamps: 1_000 };
+const LARGEST: Size = Size { string: 65_535, list: 65_535, block: 65_535, lamps: 1_000, feeds: 255, points: 65_535 };
 
 pub const SIZES: [(&str, Size); 3] = [("small", SMALL), ("typical", TYPICAL), ("largest", LARGEST)];
 
@@ -62,14 +65,16 @@ pub fn body(shape: &[Part], size: Size) -> Vec<u8> {
         Part::CString => cstring(size.string),
         Part::Ucs2 => ucs2(size.string),
         Part::List(1) => counted(size.block, letters(size.block)),
+        Part::List(5) => counted(size.points, letters(size.points * 5)),
         Part::List(width) => counted(size.list, letters(size.list * width)),
         Part::Fixtures => counted(size.lamps, (0..size.lamps as u32).flat_map(lamp).collect()),
+        Part::Names => [vec![size.feeds as u8], ucs2(12).repeat(size.feeds)].concat(),
     };
     shape.iter().flat_map(part).collect()
 }
 
-pub fn value<T: ReadFromBytes>(body: &[u8]) -> T {
-    T::read_from_bytes(body).expect("a good body")
+pub fn value<T: Body>(body: &[u8]) -> T {
+    T::read(body).expect("a good body")
 }
 
 pub fn header(layer: &[u8; 4], size: usize) -> protocol::Header {
@@ -86,7 +91,7 @@ pub fn header(layer: &[u8; 4], size: usize) -> protocol::Header {
 }
 
 /// A packet of a body, so many times.
-pub fn stream<T: Given + ReadFromBytes>(body: &[u8], times: usize) -> Vec<u8> {
+pub fn stream<T: Given + Body>(body: &[u8], times: usize) -> Vec<u8> {
     let packet = value::<T>(body).message(body.len(), 7, 0);
     assert_eq!(packet.len(), T::Layer::LENGTH + body.len());
     packet.repeat(times)

@@ -3,7 +3,7 @@ use crate::bodies::Part;
 use crate::inputs::{body, Size, SMALL};
 use crate::library;
 use crate::measure::Row;
-use crate::rows::{read, row};
+use crate::rows::{read, row, writes};
 use crate::rust::Body;
 use citp::protocol::{caex, sdmx};
 use std::cell::RefCell;
@@ -46,12 +46,43 @@ fn copied<T>(out: &RefCell<Vec<T>>, copy: impl Fn(&mut [T]) -> library::Copied) 
     black_box(&out[..len]).len() as u64
 }
 
+/// The bytes of the names and of what stands before them.
+fn feed_names_len(body: &[u8]) -> u64 {
+    let body = black_box(body);
+    let list = library::laser_feed_list_read(body);
+    let len = |x: &library::FeedNameNext| 2 * x.len as u64 + 2;
+    5 + steps!(body, feed_names_next, list.feed_names_at, list.feed_names_left, len)
+}
+
+/// The bytes of the points and of what stands before them.
+fn laser_points_len(body: &[u8]) -> u64 {
+    let body = black_box(body);
+    let frame = library::laser_feed_frame_read(body);
+    let len = |x: &library::LaserPointNext| {
+        black_box(&x.value);
+        5
+    };
+    11 + steps!(body, laser_points_next, frame.points_at, frame.points_left, len)
+}
+
+/// Laser feeds, which the Rust writes and does not read.
+fn laser_feeds(rows: &mut Vec<Row>, feeds: usize, points: usize) {
+    let size = Size { feeds, points, ..SMALL };
+    let list: &'static [u8] = body(caex::LaserFeedList::SHAPE, size).leak();
+    let frame: &'static [u8] = body(caex::LaserFeedFrame::SHAPE, size).leak();
+    let group = "stepped beside writing";
+    row(rows, group, &format!("feed names, {feeds}"), writes::<caex::LaserFeedList>(list), || feed_names_len(list));
+    row(rows, group, &format!("points, {points}"), writes::<caex::LaserFeedFrame>(frame), || laser_points_len(frame));
+}
+
 pub fn rows(rows: &mut Vec<Row>) {
     let of = |list| Size { list, ..SMALL };
     for lamps in [1, 100, 1_000] {
         let body: &'static [u8] = body(caex::FixtureList::SHAPE, Size { lamps, ..SMALL }).leak();
         row(rows, "stepped", &format!("fixtures, {lamps}"), || fixtures_sum(body), || our_fixtures_sum(body));
     }
+    laser_feeds(rows, 4, 500);
+    laser_feeds(rows, 255, 65_535);
     for n in [100, 32_768] {
         let numbers: &'static [u8] = body(&[Part::List(2)], of(n)).leak();
         let wide: &'static [u8] = body(&[Part::List(4)], of(n)).leak();

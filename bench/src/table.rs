@@ -128,7 +128,9 @@ pub fn print(rows: &[Row], costs: &[Cost]) {
     targets(&all);
     walk(&all);
     by_size(&all, "read", "body read");
+    by_size(&all, "read beside writing", "body read, beside the Rust's writing of it");
     plain(&all, "stepped", "read and stepped whole");
+    plain(&all, "stepped beside writing", "read and stepped whole, beside the Rust's writing of the body");
     plain(&all, "copied", "read and copied whole");
     plain(&all, "walked", "walked");
     by_size(&all, "written", "packet written");

@@ -1,5 +1,5 @@
 //! Packets written.
-use crate::canon::{ucs2_of, with_units, written};
+use crate::canon::{with_units, written};
 use crate::given::{levels, Given, Layer};
 use crate::inputs::{self, body, sizes, units, value, Size, SIZES};
 use crate::kinds::kinds;
@@ -9,11 +9,10 @@ use crate::pens::{Packet, Pen};
 use crate::rows::sized;
 use crate::rust::Body;
 use citp::protocol::{self, caex, finf, fptc, fsel, pinf, sdmx, WriteToBytes};
-use std::borrow::Cow;
 use std::hint::black_box;
 
 #[inline(never)]
-fn write<T: WriteToBytes>(value: &T, out: &mut [u8]) -> u64 {
+pub fn write<T: WriteToBytes>(value: &T, out: &mut [u8]) -> u64 {
     let len = out.len();
     let mut rest = out;
     value.write_to_bytes(&mut rest).expect("room");
@@ -75,7 +74,7 @@ fn packet<T: Given + 'static>(
 }
 
 /// Kinds with Ucs2 strings or channel levels: what ours takes is made before, by `lent`.
-const LENT: [u8; 3] = [library::ENTER_SHOW, library::FIXTURE_LIST, library::CHLS];
+const LENT: [u8; 4] = [library::ENTER_SHOW, library::FIXTURE_LIST, library::CHLS, library::LASER_FEED_LIST];
 
 /// A kind whose values' strings and lists are lent to our calls as they are.
 fn flat<T: Given + Body + 'static>(rows: &mut Vec<Row>, size: &'static str, elements: Size)
@@ -153,33 +152,17 @@ fn lent(rows: &mut Vec<Row>, size: &'static str, elements: Size) {
     let list: sdmx::ChLs = value(&body(sdmx::ChLs::SHAPE, elements));
     let levels = levels(&list.channel_levels);
     packet(rows, "ChLs", size, list, move |_, pen| pen.chls(&levels));
-}
-
-/// Laser feeds, which are written only.
-fn lasers(rows: &mut Vec<Row>, size: &'static str, feeds: usize, points: usize) {
-    let names: Vec<Vec<u16>> = vec![units(12); feeds];
-    let feed_names: Vec<_> = names.iter().map(|name| ucs2_of(name)).collect();
-    let list = caex::LaserFeedList { source_key: 1, feed_count: feeds as u8, feed_names: Cow::Owned(feed_names) };
+    let list: caex::LaserFeedList = value(&body(caex::LaserFeedList::SHAPE, elements));
+    let names: Vec<Vec<u16>> = list.feed_names.iter().map(owned).collect();
     packet(rows, "LaserFeedList", size, list, move |list, pen| {
         pen.laser_feed_list_head(list.source_key, names.len())
             + names.iter().map(|name| pen.feed_name(name)).sum::<u8>()
     });
-    let point = |i| caex::LaserPoint { x_low_byte: i as u8, y_low_byte: 2, xy_high_nibbles: 3, color: 4 };
-    let points: Vec<_> = (0..points).map(point).collect();
-    let frame = caex::LaserFeedFrame {
-        source_key: 1,
-        feed_index: 2,
-        frame_sequence: 3,
-        point_count: points.len() as u16,
-        points: Cow::Owned(points),
-    };
-    packet(rows, "LaserFeedFrame", size, frame, |frame, pen| frame.give(pen));
 }
 
 pub fn rows(rows: &mut Vec<Row>) {
-    for ((size, elements), (feeds, points)) in SIZES.into_iter().zip([(0, 0), (4, 500), (255, 65_535)]) {
+    for (size, elements) in SIZES {
         all_flat(rows, size, elements);
         lent(rows, size, elements);
-        lasers(rows, size, feeds, points);
     }
 }

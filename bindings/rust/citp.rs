@@ -40,7 +40,7 @@ macro_rules! functions {
     };
 }
 
-// ---- kinds of message; the last two are written only
+// ---- kinds of message
 
 pub const ENTER_SHOW: u8 = 0;
 pub const FIXTURE_LIST: u8 = 1;
@@ -109,7 +109,7 @@ pub struct Step {
     pub report: u8,
     /// of the end, 0 at the stream's end, else 1 to 5; of a refused packet, 6 to 10; else 0
     pub number: u8,
-    /// of a message: ENTER_SHOW to PLOC
+    /// of a message: ENTER_SHOW to LASER_FEED_FRAME
     pub kind: u8,
     pub request_index: u16,
     pub part: u16,
@@ -293,6 +293,28 @@ pub struct Ploc {
     pub state_len: usize,
 }
 
+#[repr(C)]
+#[derive(Clone, Copy, Debug, Default, PartialEq, Eq)]
+pub struct LaserFeedList {
+    pub number: u8,
+    pub feed_names_left: u8,
+    pub source_key: u32,
+    pub taken: usize,
+    pub feed_names_at: usize,
+}
+
+#[repr(C)]
+#[derive(Clone, Copy, Debug, Default, PartialEq, Eq)]
+pub struct LaserFeedFrame {
+    pub number: u8,
+    pub feed_index: u8,
+    pub points_left: u16,
+    pub source_key: u32,
+    pub frame_sequence: u32,
+    pub taken: usize,
+    pub points_at: usize,
+}
+
 functions! {
     /// a Ucs2 string: name
     enter_show_read(body: &[u8]) -> StringBody;
@@ -321,6 +343,8 @@ functions! {
     /// a CString: name
     pnam_read(body: &[u8]) -> StringBody;
     ploc_read(body: &[u8]) -> Ploc;
+    laser_feed_list_read(body: &[u8]) -> LaserFeedList;
+    laser_feed_frame_read(body: &[u8]) -> LaserFeedFrame;
 }
 
 // ---- lists stepped through: `given` is 1 with an item and the cursor behind it; else the list is done, or refused. A
@@ -421,12 +445,46 @@ pub struct IdentifierNext {
     pub data_len: usize,
 }
 
+/// The name is a Ucs2 string: `start` and `len`.
+#[repr(C)]
+#[derive(Clone, Copy, Debug, Default, PartialEq, Eq)]
+pub struct FeedNameNext {
+    pub number: u8,
+    pub given: u8,
+    pub left: u8,
+    pub at: usize,
+    pub start: usize,
+    pub len: usize,
+}
+
+/// xy_high_nibbles has that of x in its low nibble, that of y in its high one; color is R5 G6 B5.
+#[repr(C)]
+#[derive(Clone, Copy, Debug, Default, PartialEq, Eq)]
+pub struct LaserPoint {
+    pub x_low_byte: u8,
+    pub y_low_byte: u8,
+    pub xy_high_nibbles: u8,
+    pub color: u16,
+}
+
+#[repr(C)]
+#[derive(Clone, Copy, Debug, Default, PartialEq, Eq)]
+pub struct LaserPointNext {
+    pub number: u8,
+    pub given: u8,
+    pub left: u16,
+    pub value: LaserPoint,
+    pub at: usize,
+}
+
 functions! {
     u16_list_next(body: &[u8], at: usize, left: u16) -> U16Next;
     u32_list_next(body: &[u8], at: usize, left: u16) -> U32Next;
     channel_levels_next(body: &[u8], at: usize, left: u16) -> ChannelLevelNext;
     fixtures_next(body: &[u8], at: usize, left: u16) -> FixtureNext;
     identifiers_next(body: &[u8], at: usize, left: u8) -> IdentifierNext;
+    feed_names_next(body: &[u8], at: usize, left: u8) -> FeedNameNext;
+    laser_points_next(body: &[u8], at: usize, left: u16) -> LaserPointNext;
 }
 
 // ---- strings and lists of numbers copied out of a body: a string from its start up to the zero, which is not copied,

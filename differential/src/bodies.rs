@@ -13,6 +13,8 @@ pub enum Part {
     /// A u16 count and items of so many bytes.
     List(usize),
     Fixtures,
+    /// A u8 count and so many Ucs2 strings.
+    Names,
 }
 
 #[derive(Clone, Copy, PartialEq)]
@@ -56,6 +58,14 @@ impl Size {
         match self {
             Size::Long if random.below(64) == 0 => random.between(250, 255),
             _ => random.below(4),
+        }
+    }
+
+    fn names(self, random: &mut Random) -> usize {
+        match self {
+            Size::Small => random.between(0, 5),
+            Size::Long => 255,
+            _ => random.between(6, 16),
         }
     }
 
@@ -131,6 +141,12 @@ fn fixture(size: Size, random: &mut Random, out: &mut Vec<u8>) {
     (0..6).for_each(|_| float(random, out));
 }
 
+/// A name of a feed: short, but for one in sixteen, in long lists one in a thousand.
+fn feed_name(size: Size, random: &mut Random, out: &mut Vec<u8>) {
+    let short = random.below(if size == Size::Long { 1000 } else { 16 }) > 0;
+    ucs2(if short { Size::Small } else { size }.string(random), random, out);
+}
+
 /// A body that can be read.
 pub fn good(shape: &[Part], size: Size, random: &mut Random) -> Vec<u8> {
     let mut out = Vec::new();
@@ -149,6 +165,11 @@ pub fn good(shape: &[Part], size: Size, random: &mut Random) -> Vec<u8> {
                 let n = size.fixtures(random);
                 out.extend_from_slice(&(n as u16).to_le_bytes());
                 (0..n).for_each(|_| fixture(size, random, &mut out));
+            }
+            Part::Names => {
+                let n = size.names(random);
+                out.push(n as u8);
+                (0..n).for_each(|_| feed_name(size, random, &mut out));
             }
         }
     }
@@ -209,7 +230,7 @@ fn alphabet(shape: &[Part]) -> [u8; 7] {
     let has = |sort: fn(&Part) -> bool| shape.iter().any(sort);
     match () {
         _ if has(|part| matches!(part, Part::Code(_))) => CODES,
-        _ if has(|part| matches!(part, Part::CString | Part::Ucs2)) => STRINGS,
+        _ if has(|part| matches!(part, Part::CString | Part::Ucs2 | Part::Names)) => STRINGS,
         _ => NUMBERS,
     }
 }

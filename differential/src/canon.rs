@@ -146,6 +146,7 @@ structs! {
     }
     caex::Identifier<'_> { identifier_type, data_size, data }
     caex::FixtureData { patched, universe, universe_channel, unit, channel, circuit, note, position, angles }
+    caex::LaserPoint { x_low_byte, y_low_byte, xy_high_nibbles, color }
 }
 
 macro_rules! kind_structs {

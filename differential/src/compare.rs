@@ -17,12 +17,20 @@ fn unended(body: &[u8]) -> bool {
     body.chunks_exact(2).all(|unit| unit != [0, 0])
 }
 
-/// The refusals that are due, none where the body is to be read. 7 and 8 are one outcome of the Rust.
+/// The refusals that are due, none where the body is to be read, by what the Rust reads and writes again as the bytes
+/// taken. 7 and 8 are one outcome of the Rust; of the kinds that it does not read, a cut frame is 7, a cut list 7 in its
+/// first five bytes and 8 behind them.
 pub fn due<T: Body>(answer: &Answer<T>, body: &[u8]) -> Result<&'static [u8], String> {
     match answer {
         Answer::Read(..) if T::NAME == "EnterShow" && unended(body) => Ok(&[8]),
+        Answer::Read(value, taken) if written(value) != body[..*taken] => Err("written as other bytes".to_string()),
         Answer::Read(..) => Ok(&[]),
-        Answer::UnexpectedEof => Ok(&[7, 8]),
+        Answer::UnexpectedEof => Ok(match T::NAME {
+            "LaserFeedFrame" => &[7],
+            "LaserFeedList" if body.len() < 5 => &[7],
+            "LaserFeedList" => &[8],
+            _ => &[7, 8],
+        }),
         Answer::Unreachable if T::NAME == "FixtureList" && body[0] > 2 => Ok(&[9]),
         Answer::Unreachable if T::NAME == "FixtureList" => Ok(&[10]),
         Answer::Unreachable => Err("unreachable".to_string()),
@@ -69,7 +77,7 @@ fn look<T: Compared>(body: &[u8], scratch: &mut Scratch) -> Seen {
         (Err(_), _) => Some("an answer of the Rust that no rule covers"),
         (Ok([]), Answer::Read(value, taken)) => differ_in_fields(value, *taken, &ours, scratch).or_else(|| {
             written = true;
-            value.compare_writing().err()
+            value.compare_writing(&body[..*taken]).err()
         }),
         (Ok(numbers), _) if !numbers.contains(&ours.number) => Some("refusal"),
         (Ok(_), _) if !scratch.ours.is_empty() => Some("fields of a refused answer"),

@@ -124,6 +124,21 @@ fn reading() {
     show("EnId `41 00`", format!("{rust:?}"), walk(&packet(b"SDMX", b"EnId", b"A\0")));
     let rust = sdmx::SXSr::read_from_bytes(&b"A\0"[..]).map(|read| read.connection_string);
     show("SXSr `41 00`", format!("{rust:?}"), walk(&packet(b"SDMX", b"SXSr", b"A\0")));
+    entry(27, "Kinds that the Rust does not read");
+    show_written_and_read("LaserFeedList of two empty names", &feeds(2, 2));
+    show_written_and_read("LaserFeedFrame of one point", &frame(1, 1));
+}
+
+/// What the Rust writes, read by ours whole and without its last byte.
+fn show_written_and_read<T: WriteToBytes + Ours>(input: &str, value: &T) {
+    let (bytes, mut read) = (written(value), Vec::new());
+    let ours = T::read_ours(&bytes, &mut read);
+    let cut = T::read_ours(&bytes[..bytes.len() - 1], &mut Vec::new()).number;
+    show(
+        input,
+        format!("writes {}, has no reader", hex(&bytes)),
+        format!("read, {} taken, {}; {cut} without the last byte", ours.taken, hex(&read)),
+    );
 }
 
 fn ours_enter_show(body: &[u8]) -> u8 {

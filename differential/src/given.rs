@@ -1,6 +1,6 @@
 //! Values of the Rust given to our writers, and the packets that both make of them.
 use crate::canon::{level_fields, with_units, written};
-use crate::kinds::{kinds, laser_feeds};
+use crate::kinds::kinds;
 use crate::library;
 use crate::pens::Pen;
 use citp::protocol::{self, caex, finf, fptc, fsel, pinf, sdmx, SizeBytes, Ucs2, WriteToBytes};
@@ -237,8 +237,8 @@ fn frame_size(points: &[caex::LaserPoint]) -> usize {
 }
 
 macro_rules! given {
-    ($($layer:ident::$name:ident $(<$life:lifetime>)?, $kind:ident $(, $read:ident, $shape:tt)? {
-        ($($number:ident),*), ($($field:ident $(: $part:ident $ends:tt $(counted by $count:ident)?)?),*), $give:path, $size:path
+    ($($layer:ident::$name:ident $(<$life:lifetime>)?, $kind:ident, $read:ident, $shape:tt {
+        ($($number:ident),*), ($($field:ident: $part:ident $ends:tt $(counted by $count:ident)?),*), $give:path, $size:path
     })*) => { $(
         impl Given for $layer::$name $(<$life>)? {
             const KIND: u8 = library::$kind;
@@ -259,4 +259,3 @@ macro_rules! given {
     )* };
 }
 kinds!(given);
-laser_feeds!(given);

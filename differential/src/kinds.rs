@@ -1,5 +1,5 @@
-//! The table of kinds. `kinds!(rows)` hands it, in the order of the scope, to a macro `rows`, which makes of it what its
-//! file needs; `laser_feeds!(rows)` the kinds that are written only, whose rows lack what a reader needs.
+//! The table of kinds. `kinds!(rows)` hands it, in the order of their numbers, to a macro `rows`, which makes of it what
+//! its file needs.
 //!
 //! A row: the Rust's type, its constant and its reader in the library, the parts of a body (bodies.rs) and, in braces,
 //! - its numbers;
@@ -79,21 +79,17 @@ macro_rules! kinds {
                 state: CString(state_start, state_len)),
                 Pen::ploc, library::ploc_size
             }
-        }
-    };
-}
-
-macro_rules! laser_feeds {
-    ($rows:ident) => {
-        $rows! {
-            caex::LaserFeedList<'static>, LASER_FEED_LIST {
-                (source_key), (feed_names), give_feed_list, no_size
+            caex::LaserFeedList<'static>, LASER_FEED_LIST, laser_feed_list_read, [Bytes(4), Names] {
+                (source_key), (feed_names: feed_names(feed_names_at, feed_names_left) counted by feed_count),
+                give_feed_list, no_size
             }
-            caex::LaserFeedFrame<'static>, LASER_FEED_FRAME {
-                (source_key, feed_index, frame_sequence), (points), give_frame, frame_size
+            caex::LaserFeedFrame<'static>, LASER_FEED_FRAME, laser_feed_frame_read, [Bytes(9), List(5)] {
+                (source_key, feed_index, frame_sequence),
+                (points: laser_points(points_at, points_left) counted by point_count),
+                give_frame, frame_size
             }
         }
     };
 }
 
-pub(crate) use {kinds, laser_feeds};
+pub(crate) use kinds;

@@ -24,7 +24,7 @@ mod writing;
 use std::process::ExitCode;
 
 const USAGE: &str = "differential run [MILLIONS OF BODIES] | plant FAULT [MILLIONS] | sample | packets | departures";
-const SHORT_RUN: u64 = 12;
+const SHORT_RUN: u64 = 13;
 
 fn run(millions: Option<&&str>) -> ExitCode {
     let millions = millions.map_or(SHORT_RUN, |n| n.parse().expect(USAGE));

@@ -99,7 +99,7 @@ impl<N: Next> Canon for List<'_, N> {
             out.push(1);
             step.item(body, out);
             (at, left) = (next_at, next_left);
-            if plant::on(4) && left == 1 && at > 40 && std::any::type_name::<N>().ends_with("U32Next") {
+            if left == 1 && plant::loses_last(std::any::type_name::<N>(), self.2) {
                 left = 0;
             }
         }
@@ -119,8 +119,8 @@ macro_rules! lists {
             }
         }
 
-        fn $make(body: &[u8], at: usize, left: u16) -> List<'_, library::$next> {
-            List(body, at, left, |body, at, left| library::$step(body, at, left as _))
+        fn $make(body: &[u8], at: usize, left: impl Into<u16>) -> List<'_, library::$next> {
+            List(body, at, left.into(), |body, at, left| library::$step(body, at, left as _))
         }
     )* };
 }
@@ -139,7 +139,7 @@ lists! {
         m.channel_count,
         m.is_dimmer,
         m.identifiers_left,
-        identifiers(body, m.identifiers_at, m.identifiers_left as u16),
+        identifiers(body, m.identifiers_at, m.identifiers_left),
         m.data.patched,
         m.data.universe,
         m.data.universe_channel,
@@ -153,6 +153,9 @@ lists! {
         m.data.angle_x,
         m.data.angle_y,
         m.data.angle_z;
+    feed_names, FeedNameNext, feed_names_next, |m, body| Ucs2(body, m.start, m.len);
+    laser_points, LaserPointNext, laser_points_next, |m, _body|
+        m.value.x_low_byte, m.value.y_low_byte, m.value.xy_high_nibbles, m.value.color;
 }
 
 /// A list of numbers, whose copy has what its steps give.

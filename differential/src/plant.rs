@@ -2,7 +2,7 @@
 use crate::ours::Answer;
 use std::sync::atomic::{AtomicU8, Ordering};
 
-pub const FAULTS: [&str; 7] = [
+pub const FAULTS: [&str; 10] = [
     "UNam: an empty name takes a byte more",
     "FixtureList: 9 is answered as 7",
     "FixtureList: position_x: a NaN is made quiet",
@@ -10,6 +10,9 @@ pub const FAULTS: [&str; 7] = [
     "PLoc: the last byte written is changed",
     "Sele: a refused write changes a byte",
     "EnterShow: a name without its zero unit is read",
+    "LaserFeedList: 8 is answered as 7",
+    "LaserFeedList: the last of 255 names is left out",
+    "LaserFeedFrame: the last of 65,535 points is left out",
 ];
 
 static PLANTED: AtomicU8 = AtomicU8::new(0);
@@ -27,8 +30,16 @@ pub fn answer(reader: &str, answer: Answer) -> Answer {
         "unam_read" if on(1) && answer.taken == 2 => Answer { taken: 3, ..answer },
         "fixture_list_read" if on(2) && answer.number == 9 => Answer { number: 7, ..answer },
         "enter_show_read" if on(7) && answer.number == 8 => Answer { number: 0, ..answer },
+        "laser_feed_list_read" if on(8) && answer.number == 8 => Answer { number: 7, ..answer },
         _ => answer,
     }
+}
+
+/// Whether the steps of a list of so many items leave the last one out, by the type of a step.
+pub fn loses_last(step: &str, items: u16) -> bool {
+    (on(4) && items > 10 && step.ends_with("U32Next"))
+        || (on(9) && items == 255 && step.ends_with("FeedNameNext"))
+        || (on(10) && items == 65_535 && step.ends_with("LaserPointNext"))
 }
 
 pub fn float(bits: u32) -> u32 {

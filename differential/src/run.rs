@@ -26,7 +26,7 @@ enum Job {
 }
 
 /// In a long run the cuts of a long body of every kind; the short bodies of every kind; then for each kind in turn, and
-/// the laser feeds, as many rounds as so many bodies need, at least one.
+/// values of laser feeds, as many rounds as so many bodies need, at least one.
 fn jobs(bodies: u64) -> Vec<Job> {
     let mut jobs = vec![Job::Refusals, Job::Sizes];
     if bodies >= LONG_RUN {
@@ -71,15 +71,20 @@ fn work(jobs: &[Job], next: &AtomicUsize, results: &Mutex<Results>) {
 }
 
 fn show_counts(results: &Results) {
+    let values = &results.values;
     println!("{}", Tally::heading());
     for (kind, tally) in KINDS.iter().zip(&results.kinds) {
         println!("{}", tally.line(kind.name));
     }
     println!(
-        "laser feeds (written only): {} values written; sizes around the largest packet: {}; {} differ",
-        results.values.written,
-        results.values.sized,
-        results.values.differ()
+        "laser feeds: {} values written, {} bodies of them read, cuts refused with 7: {}, 8: {}; \
+         sizes around the largest packet: {}; {} differ",
+        values.written,
+        values.numbers[0],
+        values.numbers[7],
+        values.numbers[8],
+        values.sized,
+        values.differ()
     );
     let calls: Vec<String> = (9..16).map(|number| format!("{number}: {}", results.refusals.numbers[number])).collect();
     println!("calls refused with {}; {} differ", calls.join(", "), results.refusals.differ());

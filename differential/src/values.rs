@@ -1,15 +1,21 @@
-//! Laser feeds, which are written only, and sizes past the largest packet.
+//! Laser feeds, which the Rust does not read: values written by both, and what it wrote read by ours; and sizes past the
+//! largest packet.
 use crate::canon::{ucs2_of, written};
+use crate::compare::{due, Compared};
 use crate::given::Given;
+use crate::ours::Ours;
 use crate::random::Random;
+use crate::rust::Answer;
 use crate::tally::Tally;
-use crate::writing::{compare_size, Writes};
+use crate::writing::compare_size;
 use citp::protocol::caex::{EnterShow, LaserFeedFrame, LaserFeedList, LaserPoint};
 use citp::protocol::pinf::{PLoc, PNam};
 use std::borrow::Cow;
 use std::ffi::CString;
 
 const EACH: usize = 2_000;
+/// Of each value, besides that of the last byte.
+const CUTS: usize = 8;
 
 fn count(limit: usize, random: &mut Random) -> usize {
     match random.below(100) {
@@ -23,8 +29,8 @@ fn unit(random: &mut Random) -> u16 {
     u16::from_le_bytes([random.byte(), random.byte()]).max(1)
 }
 
-fn list(random: &mut Random) -> LaserFeedList<'static> {
-    let names = (0..count(255, random)).map(|_| {
+fn list(names: usize, random: &mut Random) -> LaserFeedList<'static> {
+    let names = (0..names).map(|_| {
         let units: Vec<u16> = (0..count(300, random)).map(|_| unit(random)).collect();
         ucs2_of(&units)
     });
@@ -45,9 +51,8 @@ fn point(random: &mut Random) -> LaserPoint {
     }
 }
 
-fn frame(random: &mut Random) -> LaserFeedFrame<'static> {
-    let limit = if random.below(20) == 0 { 65_535 } else { 2_000 };
-    let points: Vec<_> = (0..count(limit, random)).map(|_| point(random)).collect();
+fn frame(points: usize, random: &mut Random) -> LaserFeedFrame<'static> {
+    let points: Vec<_> = (0..points).map(|_| point(random)).collect();
     LaserFeedFrame {
         source_key: random.next() as u32,
         feed_index: random.byte(),
@@ -57,17 +62,55 @@ fn frame(random: &mut Random) -> LaserFeedFrame<'static> {
     }
 }
 
-fn compare<T: Given>(value: T, tally: &mut Tally) {
+/// Our answer, counted: its number, the bytes taken and the canonical bytes.
+fn answer<T: Ours>(body: &[u8], tally: &mut Tally) -> (u8, usize, Vec<u8>) {
+    let mut fields = Vec::new();
+    let answer = T::read_ours(body, &mut fields);
+    tally.numbers[answer.number as usize & 15] += 1;
+    (answer.number, answer.taken, fields)
+}
+
+/// What the Rust wrote is read as the value given, whatever stands behind it; a cut of it is refused.
+fn compare_reading<T: Compared>(
+    value: &T,
+    written: &[u8],
+    random: &mut Random,
+    tally: &mut Tally,
+) -> Result<(), &'static str> {
+    let mut fields = Vec::new();
+    value.canon(&mut fields);
+    let whole = (0, written.len(), fields);
+    let added = [written, &[random.byte(), random.byte()]].concat();
+    if answer::<T>(written, tally) != whole || answer::<T>(&added, tally) != whole {
+        return Err("what the Rust wrote, read");
+    }
+    for end in (0..CUTS).map(|_| random.below(written.len())).chain([written.len() - 1]) {
+        let cut = &written[..end];
+        let (number, taken, fields) = answer::<T>(cut, tally);
+        if due::<T>(&Answer::UnexpectedEof, cut) != Ok(&[number]) || taken != 0 || !fields.is_empty() {
+            return Err("a cut of what the Rust wrote");
+        }
+    }
+    Ok(())
+}
+
+fn compare<T: Compared>(value: T, random: &mut Random, tally: &mut Tally) {
     tally.written += 1;
-    if let Err(what) = value.compare_writing() {
-        tally.differs(what, &written(&value), || "the bytes that the Rust writes".to_string());
+    let bytes = written(&value);
+    if let Err(what) = value.compare_writing(&bytes).and_then(|()| compare_reading(&value, &bytes, random, tally)) {
+        tally.differs(what, &bytes, || "the bytes that the Rust writes".to_string());
     }
 }
 
+/// No items, one and the most that a count says, then others.
 pub fn laser_feeds(random: &mut Random, tally: &mut Tally) {
+    for (names, points) in [(0, 0), (1, 1), (255, 65_535)] {
+        compare(list(names, random), random, tally);
+        compare(frame(points, random), random, tally);
+    }
     for _ in 0..EACH {
-        compare(list(random), tally);
-        compare(frame(random), tally);
+        compare(list(count(255, random), random), random, tally);
+        compare(frame(count(2_000, random), random), random, tally);
     }
 }
 

@@ -26,7 +26,8 @@ pub fn holds(out: &[u8], at: usize, bytes: &[u8]) -> bool {
 
 /// A kind whose values are written and compared.
 pub trait Writes {
-    fn compare_writing(&self) -> Result<(), &'static str>;
+    /// With what the Rust writes.
+    fn compare_writing(&self, due: &[u8]) -> Result<(), &'static str>;
 
     /// The Rust's packet, none of the base header.
     fn packet(&self) -> Option<Vec<u8>>;
@@ -103,26 +104,19 @@ fn compare_packet_short<T: Given>(value: &T, due: &[u8]) -> Result<(), &'static 
     }
 }
 
-/// The walk on the Rust's packet: a message of its kind, of a laser feed an unknown kind.
+/// The walk on the Rust's packet: a message of its kind.
 fn compare_walk<T: Given>(packet: &[u8]) -> Result<(), &'static str> {
-    let number_at = |at: usize| u32::from_le_bytes([packet[at], packet[at + 1], packet[at + 2], packet[at + 3]]);
-    let mut due = library::Step {
+    let due = library::Step {
+        report: library::MESSAGE,
+        kind: T::KIND,
         request_index: REQUEST_INDEX,
+        content_hint: if T::Layer::LENGTH == 28 { CONTENT_HINT } else { 0 },
         size: packet.len() as u32,
         next: packet.len(),
+        body_start: T::Layer::LENGTH,
+        body_len: packet.len() - T::Layer::LENGTH,
         ..Default::default()
     };
-    if T::KIND <= library::PLOC {
-        due.report = library::MESSAGE;
-        due.kind = T::KIND;
-        due.content_hint = if T::Layer::LENGTH == 28 { CONTENT_HINT } else { 0 };
-        due.body_start = T::Layer::LENGTH;
-        due.body_len = packet.len() - T::Layer::LENGTH;
-    } else {
-        due.report = library::UNKNOWN_KIND;
-        due.layer = number_at(16);
-        due.content_type = number_at(20);
-    }
     let step = library::walk_step(packet, 0);
     if step == due {
         Ok(())
@@ -132,11 +126,10 @@ fn compare_walk<T: Given>(packet: &[u8]) -> Result<(), &'static str> {
 }
 
 impl<T: Given> Writes for T {
-    fn compare_writing(&self) -> Result<(), &'static str> {
-        let due = written(self);
+    fn compare_writing(&self, due: &[u8]) -> Result<(), &'static str> {
         compare_size(self, due.len())?;
-        compare_alone(self, &due)?;
-        compare_alone_short(self, &due)?;
+        compare_alone(self, due)?;
+        compare_alone_short(self, due)?;
         let packet = self.message(due.len(), REQUEST_INDEX, CONTENT_HINT);
         compare_packet(self, &packet)?;
         compare_walk::<T>(&packet)?;
@@ -149,8 +142,7 @@ impl<T: Given> Writes for T {
 }
 
 impl Writes for Header {
-    fn compare_writing(&self) -> Result<(), &'static str> {
-        let due = written(self);
+    fn compare_writing(&self, due: &[u8]) -> Result<(), &'static str> {
         let request_index = u16::from_le_bytes([due[6], due[7]]);
         let write = |out: &mut [u8]| {
             let (major, minor) = (self.version_major, self.version_minor);
@@ -169,7 +161,7 @@ impl Writes for Header {
             )
         };
         let mut out = blank(FRONT + due.len() + BEHIND);
-        if write(&mut out) != (library::Put { number: 0, at: FRONT + due.len() }) || !holds(&out, FRONT, &due) {
+        if write(&mut out) != (library::Put { number: 0, at: FRONT + due.len() }) || !holds(&out, FRONT, due) {
             return Err("header written");
         }
         let mut out = blank(FRONT + due.len() - 1);

@@ -39,6 +39,16 @@ def fixture(number, names, identifiers, data):
             + struct.pack('<6I', *floats))
 
 
+def feed_list(source_key, *names):
+    return struct.pack('<IB', source_key, len(names)) + b''.join(map(ucs2, names))
+
+
+def frame(source_key, feed_index, frame_sequence, *points):
+    """A point: x_low_byte, y_low_byte, xy_high_nibbles, color."""
+    head = struct.pack('<IBIH', source_key, feed_index, frame_sequence, len(points))
+    return head + b''.join(struct.pack('<BBBH', *point) for point in points)
+
+
 FIXTURES = [
     fixture(1, ('Maker', 'Fresnel 1 kW', '1 channel'), [identifier(0, b'\x12\x34'), identifier(2, bytes(range(16))), identifier(5, b'')],
             (1, 0, 0, '1', 101, 'A1', 'gel L201', 0x3F800000, 0xC0200000, 0, 0x80000000, 0x42B40000, 0x7F800000)),
@@ -65,21 +75,31 @@ MESSAGES = [
     packet(b'CAEX', 0x00020201, b'\0\0\0'),
     packet(b'CAEX', 0x00020203, struct.pack('<H2I', 2, 0, 4294967295)),
     packet(b'CAEX', 0x00030102, b'\x05\x19'),
+    packet(b'CAEX', 0x00030101, feed_list(0x01020304, 'Bühne links', '', '\n~\x7f€')),
+    packet(b'CAEX', 0x00030101, feed_list(0)),
+    packet(b'CAEX', 0x00030200, frame(0x01020304, 2, 0xFFFFFFFF, (0, 9, 10, 100), (255, 254, 253, 65535), (1, 2, 3, 256))),
+    packet(b'CAEX', 0x00030200, frame(0xFFFFFFFF, 255, 0)),
 ]
 
 OTHERS = [
     packet(b'SDMX', b'UNam', b'\x03A\0added', minor=9),  # added bytes
+    packet(b'CAEX', 0x00030101, feed_list(1, 'A') + ucs2('B')),
+    packet(b'CAEX', 0x00030200, frame(1, 0, 2, (3, 4, 5, 6)) + b'added'),
     packet(b'MSEX', b'CInf', b'\1\2'),  # an unknown layer
     packet(b'\x00\xff\xfe\x0a', b''),
     packet(b'SDMX', b'EnId', b'x\0'),  # an unknown kind
-    packet(b'CAEX', 0x00030200, b'\0'),
+    packet(b'CAEX', 0x00030100, b'\0'),
     packet(b'CAEX', 0x00020201, b'?', count=3, part=1),  # fragments
     packet(b'NONE', b'', count=0, part=65535),
     packet(b'SDMX', b'', b'abc'),  # 6
     packet(b'FPTC', b'', b'Ptch' + b'abc'),
     packet(b'SDMX', b'Capa', b'\1\0e'),  # 7
+    packet(b'CAEX', 0x00030101, feed_list(1)[:-1]),
+    packet(b'CAEX', 0x00030200, frame(1, 0, 2)[:-1]),
+    packet(b'CAEX', 0x00030200, frame(1, 0, 2, (3, 4, 5, 6), (7, 8, 9, 10))[:-1]),
     packet(b'SDMX', b'UNam', b'\3A'),  # 8
     packet(b'CAEX', 0x00020100, b'A\0\0'),
+    *[packet(b'CAEX', 0x00030101, feed_list(1, 'A', 'B')[:-cut]) for cut in (1, 2, 3, 4)],
     packet(b'CAEX', 0x00020201, b'\3\0\0'),  # 9
     packet(b'CAEX', 0x00020201, b'\0\1\0' + fixture(1, ('', '', ''), [identifier(6, b'')], (0, 0, 0, '', 0, '', '', 0, 0, 0, 0, 0, 0))),  # 10
 ]
@@ -106,6 +126,8 @@ def long_streams():
     yield packet(b'SDMX', b'ChBk', bytes(4) + struct.pack('<H', 65506) + b'\xff' * 65506)
     yield packet(b'SDMX', b'UNam', b'\x01' + b'\xff' * (65536 - 26) + b'\0')
     yield packet(b'FPTC', b'UPtc', u16s(*[65535] * 32753))
+    yield packet(b'CAEX', 0x00030101, feed_list(0, *[''] * 254, '\uffff' * 32498) + b'?')
+    yield packet(b'CAEX', 0x00030200, frame(0, 0, 0, *[(255, 255, 255, 65535)] * 13100) + b'?')
     yield packet(b'MSEX', b'') * 4000
     yield (ALL * 42)[:65536]
 

@@ -1,15 +1,18 @@
 -- What a step through a list and a string copy answer: an item with the cursor behind it and `given` 1; nothing where the list is done; the number of a refusal and nothing else.
 use Prim.Native.Nat.{ℕ}
 use mathlib.Core.List.{List}
+use Rattle.format.specs.Format.{ucs2}
 use Rattle.format.specs.View.{View, Next, item, done, broken}
 use Rattle.format.specs.Copy.{Answer, took, denied}
 use Rattle.plain.specs.Numbers.{flatNumbers}
-use Rattle.protocol.specs.Kind.{channelLevelFormat, fixtureFormat, identifierFormat}
+use Rattle.protocol.specs.Kind.{channelLevelFormat, fixtureFormat, identifierFormat, laserPointFormat}
 use Rattle.bridge.specs.declared.list.U16Answer.{U16Answer}
 use Rattle.bridge.specs.declared.list.U32Answer.{U32Answer}
 use Rattle.bridge.specs.declared.list.ChannelLevelAnswer.{ChannelLevelAnswer}
 use Rattle.bridge.specs.declared.list.IdentifierAnswer.{IdentifierAnswer}
 use Rattle.bridge.specs.declared.list.FixtureAnswer.{FixtureAnswer}
+use Rattle.bridge.specs.declared.list.FeedNameAnswer.{FeedNameAnswer}
+use Rattle.bridge.specs.declared.list.LaserPointAnswer.{LaserPointAnswer}
 use Rattle.bridge.specs.declared.list.CopyAnswer.{CopyAnswer}
 
 -- by what is made of an item, and of a number where there is none
@@ -102,6 +105,33 @@ fixture (id, (maker, (name, (mode, (channels, (dimmer, (identifiers, (a, (b, (c,
 
 abbrev pub flatFixture : Next (View fixtureFormat) → FixtureAnswer
 flatFixture = flatNext fixture noFixture
+
+abbrev pub noFeedName : ℕ → FeedNameAnswer
+noFeedName k = record { number = k; given = 0; left = 0; at = 0; start = 0; len = 0 }
+
+abbrev pub flatFeedName : Next (View ucs2) → FeedNameAnswer
+flatFeedName = flatNext (λ x at n. record { number = 0; given = 1; left = n; at = at; start = x .0; len = x .1 }) noFeedName
+
+abbrev pub noLaserPoint : ℕ → LaserPointAnswer
+noLaserPoint k = record {
+  number = k;
+  given = 0;
+  left = 0;
+  value = record { «x_low_byte» = 0; «y_low_byte» = 0; «xy_high_nibbles» = 0; color = 0 };
+  at = 0;
+}
+
+abbrev laserPoint : View laserPointFormat → ℕ → ℕ → LaserPointAnswer
+laserPoint (a, (b, (c, d))) at n = record {
+  number = 0;
+  given = 1;
+  left = n;
+  value = record { «x_low_byte» = a; «y_low_byte» = b; «xy_high_nibbles» = c; color = d };
+  at = at;
+}
+
+abbrev pub flatLaserPoint : Next (View laserPointFormat) → LaserPointAnswer
+flatLaserPoint = flatNext laserPoint noLaserPoint
 
 -- with the output after it
 abbrev pub flatCopy : Answer × List ℕ → CopyAnswer × List ℕ

@@ -7,13 +7,15 @@ use Rattle.finf.specs.Says.{fram}
 use Rattle.fsel.specs.Says.{sele}
 use Rattle.fptc.specs.Says.{ptch}
 use Rattle.sdmx.specs.Says.{unam, chbk}
-use Rattle.caex.specs.Says.{fixtureList, laserFeedControl}
+use Rattle.caex.specs.Says.{fixtureList, laserFeedControl, laserFeedList, laserFeedFrame}
 use Rattle.bridge.specs.declared.read.HeaderAnswer.{HeaderAnswer}
 use Rattle.bridge.specs.declared.read.StringBody.{StringBody}
 use Rattle.bridge.specs.declared.read.ListBody.{ListBody}
 use Rattle.bridge.specs.declared.read.UniverseStringBody.{UniverseStringBody}
 use Rattle.bridge.specs.declared.read.FixtureListBody.{FixtureListBody}
 use Rattle.bridge.specs.declared.read.LaserFeedControlBody.{LaserFeedControlBody}
+use Rattle.bridge.specs.declared.read.LaserFeedListBody.{LaserFeedListBody}
+use Rattle.bridge.specs.declared.read.LaserFeedFrameBody.{LaserFeedFrameBody}
 use Rattle.bridge.specs.declared.read.ChBkBody.{ChBkBody}
 use Rattle.bridge.specs.declared.read.PtchBody.{PtchBody}
 use Rattle.bridge.specs.declared.read.SeleBody.{SeleBody}
@@ -48,6 +50,17 @@ flatFixtureList (missed n) = record { number = n; «message_type» = 0; «fixtur
 abbrev pub flatLaserFeedControl : Seen (View laserFeedControl) → LaserFeedControlBody
 flatLaserFeedControl (seen (a, b) end) = record { number = 0; «feed_index» = a; «frame_rate» = b; taken = end }
 flatLaserFeedControl (missed n) = record { number = n; «feed_index» = 0; «frame_rate» = 0; taken = 0 }
+
+abbrev pub flatLaserFeedList : Seen (View laserFeedList) → LaserFeedListBody
+flatLaserFeedList (seen (a, (at, count)) end) =
+    record { number = 0; «feed_names_left» = count; «source_key» = a; taken = end; «feed_names_at» = at }
+flatLaserFeedList (missed n) = record { number = n; «feed_names_left» = 0; «source_key» = 0; taken = 0; «feed_names_at» = 0 }
+
+abbrev pub flatLaserFeedFrame : Seen (View laserFeedFrame) → LaserFeedFrameBody
+flatLaserFeedFrame (seen (a, (b, (c, (at, count)))) end) =
+    record { number = 0; «feed_index» = b; «points_left» = count; «source_key» = a; «frame_sequence» = c; taken = end; «points_at» = at }
+flatLaserFeedFrame (missed n) =
+    record { number = n; «feed_index» = 0; «points_left» = 0; «source_key» = 0; «frame_sequence» = 0; taken = 0; «points_at» = 0 }
 
 abbrev pub flatChBk : Seen (View chbk) → ChBkBody
 flatChBk (seen (a, (b, (c, (start, len)))) end) =

@@ -1,12 +1,17 @@
 // Lists stepped through, lists of numbers and strings copied. `given` is 1 with an item and the cursor behind it; else the list is done, or refused.
 ghost use mathlib.Core.Path.{_≡_};
-ghost use Rattle.format.specs.Format.{number};
+ghost use Rattle.format.specs.Format.{number, ucs2};
 ghost use Rattle.format.specs.View.{stepped, item};
 ghost use Rattle.format.specs.Copy.{copyCString, copyUcs2, copyNumbers};
-ghost use Rattle.protocol.specs.Kind.{channelLevelFormat, fixtureFormat, identifierFormat};
+ghost use Rattle.protocol.specs.Kind.{channelLevelFormat, fixtureFormat, identifierFormat, laserPointFormat};
 ghost use Rattle.fixture.specs.Says.{fixtureView};
 ghost use Rattle.bridge.specs.List.{noU16, noU32, noChannelLevel, noIdentifier, noFixture, flatU16, flatU32, flatChannelLevel, flatIdentifier};
-ghost use Rattle.bridge.specs.List.{flatFixture, flatCopy};
+ghost use Rattle.bridge.specs.List.{flatFixture, noFeedName, flatFeedName, noLaserPoint, flatLaserPoint, flatCopy};
+use caex::FeedNames;
+use caex::FeedNamesNext;
+use caex::LaserPoint;
+use caex::LaserPoints;
+use caex::LaserPointsNext;
 use fixture::Fixture;
 use fixture::Fixtures;
 use fixture::FixturesNext;
@@ -298,6 +303,96 @@ pub extern "C" fn citp_fixtures_next(body: &[u8], at: usize, left: u16) -> Fixtu
         FixturesNext::Item(x, more) => fixture(x, more),
         FixturesNext::Done => no_fixture(0),
         FixturesNext::Refused(number) => no_fixture(number),
+    }
+}
+
+// ---- feed names
+
+#[repr(C)]
+pub struct FeedNameAnswer {
+    pub number: u8,
+    pub given: u8,
+    pub left: u8,
+    pub at: usize,
+    pub start: usize,
+    pub len: usize,
+}
+
+fn no_feed_name(number: u8) -> FeedNameAnswer
+    ensures { λ r. ⌜ r ≡ noFeedName number ⌝ }
+{
+    FeedNameAnswer {
+        number,
+        given: 0,
+        left: 0,
+        at: 0,
+        start: 0,
+        len: 0,
+    }
+}
+
+#[no_mangle]
+pub extern "C" fn citp_feed_names_next(body: &[u8], at: usize, left: u8) -> FeedNameAnswer
+    ensures { λ r. ⌜ r ≡ flatFeedName (stepped ucs2 (now (body .entry)) at left) ⌝ }
+{
+    let list = FeedNames { at, left };
+    match list.next(body) {
+        FeedNamesNext::Item(x, more) => FeedNameAnswer {
+            number: 0,
+            given: 1,
+            left: more.left,
+            at: more.at,
+            start: x.start,
+            len: x.len,
+        },
+        FeedNamesNext::Done => no_feed_name(0),
+        FeedNamesNext::Refused(number) => no_feed_name(number),
+    }
+}
+
+// ---- laser points
+
+#[repr(C)]
+pub struct LaserPointAnswer {
+    pub number: u8,
+    pub given: u8,
+    pub left: u16,
+    pub value: LaserPoint,
+    pub at: usize,
+}
+
+fn no_laser_point(number: u8) -> LaserPointAnswer
+    ensures { λ r. ⌜ r ≡ noLaserPoint number ⌝ }
+{
+    LaserPointAnswer {
+        number,
+        given: 0,
+        left: 0,
+        value: LaserPoint {
+            x_low_byte: 0,
+            y_low_byte: 0,
+            xy_high_nibbles: 0,
+            color: 0,
+        },
+        at: 0,
+    }
+}
+
+#[no_mangle]
+pub extern "C" fn citp_laser_points_next(body: &[u8], at: usize, left: u16) -> LaserPointAnswer
+    ensures { λ r. ⌜ r ≡ flatLaserPoint (stepped laserPointFormat (now (body .entry)) at left) ⌝ }
+{
+    let list = LaserPoints { at, left };
+    match list.next(body) {
+        LaserPointsNext::Item(value, more) => LaserPointAnswer {
+            number: 0,
+            given: 1,
+            left: more.left,
+            value,
+            at: more.at,
+        },
+        LaserPointsNext::Done => no_laser_point(0),
+        LaserPointsNext::Refused(number) => no_laser_point(number),
     }
 }
 

@@ -7,8 +7,9 @@ ghost use Rattle.finf.specs.Says.{sfra, fram};
 ghost use Rattle.fsel.specs.Says.{sele, dese};
 ghost use Rattle.fptc.specs.Says.{ptch, uptc, sptc};
 ghost use Rattle.sdmx.specs.Says.{capa, unam, chbk, chls, sxus};
-ghost use Rattle.caex.specs.Says.{enterShow, fixtureList, fixtureRemove, laserFeedControl};
-ghost use Rattle.bridge.specs.Read.{flatHeader, flatString, flatFixtureList, flatList, flatLaserFeedControl, flatUniverseString, flatChBk, flatPtch, flatSele, flatFram, flatPLoc};
+ghost use Rattle.caex.specs.Says.{enterShow, fixtureList, fixtureRemove, laserFeedControl, laserFeedList, laserFeedFrame};
+ghost use Rattle.bridge.specs.Read.{flatHeader, flatString, flatFixtureList, flatList, flatLaserFeedControl, flatLaserFeedList};
+ghost use Rattle.bridge.specs.Read.{flatLaserFeedFrame, flatUniverseString, flatChBk, flatPtch, flatSele, flatFram, flatPLoc};
 use caex::EnterShow;
 use caex::EnterShowRead;
 use caex::FixtureList;
@@ -17,6 +18,10 @@ use caex::FixtureRemove;
 use caex::FixtureRemoveRead;
 use caex::LaserFeedControl;
 use caex::LaserFeedControlRead;
+use caex::LaserFeedFrame;
+use caex::LaserFeedFrameRead;
+use caex::LaserFeedList;
+use caex::LaserFeedListRead;
 use finf::Fram;
 use finf::FramRead;
 use finf::SFra;
@@ -279,6 +284,74 @@ pub extern "C" fn citp_laser_feed_control_read(body: &[u8]) -> LaserFeedControlB
             feed_index: 0,
             frame_rate: 0,
             taken: 0,
+        },
+    }
+}
+
+#[repr(C)]
+pub struct LaserFeedListBody {
+    pub number: u8,
+    pub feed_names_left: u8,
+    pub source_key: u32,
+    pub taken: usize,
+    pub feed_names_at: usize,
+}
+
+#[no_mangle]
+pub extern "C" fn citp_laser_feed_list_read(body: &[u8]) -> LaserFeedListBody
+    ensures { λ r. ⌜ r ≡ flatLaserFeedList (view laserFeedList (now (body .entry)) 0) ⌝ }
+{
+    match LaserFeedList::read_from_bytes(body) {
+        LaserFeedListRead::Read(m, c) => LaserFeedListBody {
+            number: 0,
+            feed_names_left: m.feed_names.left,
+            source_key: m.source_key,
+            taken: c.at,
+            feed_names_at: m.feed_names.at,
+        },
+        LaserFeedListRead::Refused(number) => LaserFeedListBody {
+            number,
+            feed_names_left: 0,
+            source_key: 0,
+            taken: 0,
+            feed_names_at: 0,
+        },
+    }
+}
+
+#[repr(C)]
+pub struct LaserFeedFrameBody {
+    pub number: u8,
+    pub feed_index: u8,
+    pub points_left: u16,
+    pub source_key: u32,
+    pub frame_sequence: u32,
+    pub taken: usize,
+    pub points_at: usize,
+}
+
+#[no_mangle]
+pub extern "C" fn citp_laser_feed_frame_read(body: &[u8]) -> LaserFeedFrameBody
+    ensures { λ r. ⌜ r ≡ flatLaserFeedFrame (view laserFeedFrame (now (body .entry)) 0) ⌝ }
+{
+    match LaserFeedFrame::read_from_bytes(body) {
+        LaserFeedFrameRead::Read(m, c) => LaserFeedFrameBody {
+            number: 0,
+            feed_index: m.feed_index,
+            points_left: m.points.left,
+            source_key: m.source_key,
+            frame_sequence: m.frame_sequence,
+            taken: c.at,
+            points_at: m.points.at,
+        },
+        LaserFeedFrameRead::Refused(number) => LaserFeedFrameBody {
+            number,
+            feed_index: 0,
+            points_left: 0,
+            source_key: 0,
+            frame_sequence: 0,
+            taken: 0,
+            points_at: 0,
         },
     }
 }

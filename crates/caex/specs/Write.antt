@@ -1,4 +1,4 @@
--- What the writers write: the heads of lists, and the value of a point that is given whole.
+-- What the writers write: the heads of lists; and the numbers of a point, written and read.
 use Rattle.format.specs.Format.{Format, Value, number, code, _&_}
 use Rattle.protocol.specs.Kind.{laserPointFormat}
 use Rattle.caex.specs.declared.LaserPoint.{LaserPoint}
@@ -15,5 +15,6 @@ laserFeedListHead = number 4
 abbrev pub laserFeedFrameHead : Format
 laserFeedFrameHead = number 4 & number 1 & number 4
 
+-- a point as a value and as a view, which of numbers are the same
 abbrev pub pointValue : LaserPoint → Value laserPointFormat
 pointValue p = (p .«x_low_byte», (p .«y_low_byte», (p .«xy_high_nibbles», p .color)))

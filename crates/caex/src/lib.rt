@@ -3,16 +3,18 @@
 // A list is written as its head with the count of its items, then item by item; a count is given wider than its field.
 ghost use mathlib.Core.Path.{_≡_};
 ghost use Rattle.format.specs.Format.{number, ucs2, size};
-ghost use Rattle.format.specs.View.{view};
-ghost use Rattle.format.specs.Passed.{inRange};
+ghost use Rattle.format.specs.View.{view, stepped};
+ghost use Rattle.format.specs.Passed.{passed, inRange};
 ghost use Rattle.protocol.specs.Kind.{laserPointFormat};
 ghost use Rattle.protocol.specs.Layer.{CAEX};
 ghost use Rattle.protocol.specs.Step.{readBody};
 ghost use Rattle.put.specs.Put.{capped, putAt, putHead};
 ghost use Rattle.caex.specs.Codes.{messageTypeCode, messageTypeSays};
-ghost use Rattle.caex.specs.Says.{enterShow, fixtureList, fixtureRemove, laserFeedControl};
-ghost use Rattle.caex.specs.Says.{enterShowSays, fixtureListSays, fixtureRemoveSays, laserFeedControlSays, messageSays};
+ghost use Rattle.caex.specs.Says.{enterShow, fixtureList, fixtureRemove, laserFeedControl, laserFeedList, laserFeedFrame};
+ghost use Rattle.caex.specs.Says.{enterShowSays, fixtureListSays, fixtureRemoveSays, laserFeedControlSays, laserFeedListSays};
+ghost use Rattle.caex.specs.Says.{feedNamesNextSays, laserFeedFrameSays, laserPointSays, laserPointsNextSays, messageSays};
 ghost use Rattle.caex.specs.Write.{fixtureListHead, laserFeedListHead, laserFeedFrameHead, pointValue};
+ghost use Rattle.fixture.specs.Parts.{passSays};
 use fixture::Fixtures;
 use fixture::PassRead;
 use put::Put;
@@ -30,10 +32,12 @@ use put::u32_list_too_long;
 use put::ucs2_size;
 use put::weigh;
 use wire::Cursor;
+use wire::ItemsRead;
 use wire::U8Read;
 use wire::U16Read;
 use wire::U32List;
 use wire::U32ListRead;
+use wire::U32Read;
 use wire::Ucs2;
 use wire::Ucs2Read;
 
@@ -309,11 +313,53 @@ impl LaserFeedControl {
     }
 }
 
-// The laser feeds of a source: written only.
-pub struct LaserFeedList;
+// The laser feeds of a source.
+pub struct LaserFeedList {
+    // that of its frames
+    pub source_key: u32,
+    pub feed_names: FeedNames,
+}
+
+pub enum LaserFeedListRead {
+    Read(LaserFeedList, Cursor),
+    Refused(u8),
+}
 
 impl LaserFeedList {
     pub const CONTENT_TYPE: u32 = 0x00030101;
+
+    pub fn feed_count(self) -> u8
+        ensures { λ r. ⌜ r ≡ self .«feed_names» .left ⌝ }
+    {
+        self.feed_names.left
+    }
+
+    pub fn read_from_bytes(body: &[u8]) -> LaserFeedListRead
+        ensures { λ r. ⌜ laserFeedListSays r ≡ view laserFeedList (now (body .entry)) 0 ⌝ }
+    {
+        let c = Cursor { at: 0 };
+        let U32Read::Read(source_key, c) = c.u32(body) else {
+            return LaserFeedListRead::Refused(7);
+        };
+        let U8Read::Read(feed_count, c) = c.u8(body) else {
+            return LaserFeedListRead::Refused(7);
+        };
+        let feed_names = FeedNames {
+            at: c.at,
+            left: feed_count,
+        };
+        let answer = feed_names.pass(body);
+        let PassRead::Past(c) = answer else {
+            return LaserFeedListRead::Refused(answer.number());
+        };
+        LaserFeedListRead::Read(
+            LaserFeedList {
+                source_key,
+                feed_names,
+            },
+            c,
+        )
+    }
 
     // The list up to its names.
     pub fn write_head(out: &mut [u8], at: usize, source_key: u32, feed_count: usize) -> Put
@@ -336,11 +382,116 @@ impl LaserFeedList {
     }
 }
 
-// A frame of a laser feed: written only.
-pub struct LaserFeedFrame;
+// What is left of a list of feed names.
+pub struct FeedNames {
+    pub at: usize,
+    pub left: u8,
+}
+
+// A step through a list: an item and what is left behind it. A list that was read meets no refusal, a made-up one may.
+pub enum FeedNamesNext {
+    Item(Ucs2, FeedNames),
+    Done,
+    Refused(u8),
+}
+
+impl FeedNames {
+    pub fn next(self, body: &[u8]) -> FeedNamesNext
+        ensures { λ r. ⌜ feedNamesNextSays r ≡ stepped ucs2 (now (body .entry)) (self .at) (self .left) ⌝ }
+    {
+        let left = self.left;
+        if left == 0 {
+            return FeedNamesNext::Done;
+        }
+        let c = Cursor { at: self.at };
+        let Ucs2Read::Read(feed_name, c) = c.ucs2(body) else {
+            return FeedNamesNext::Refused(8);
+        };
+        FeedNamesNext::Item(
+            feed_name,
+            FeedNames {
+                at: c.at,
+                left: left - 1,
+            },
+        )
+    }
+
+    // Steps to the end.
+    fn pass(self, body: &[u8]) -> PassRead
+        ensures { λ r. ⌜ passSays r ≡ passed ucs2 (now (body .entry)) (self .at) (self .left) ⌝ }
+    {
+        let mut rest = self;
+        loop {
+            match rest.next(body) {
+                FeedNamesNext::Item(_, more) => {
+                    rest = more;
+                }
+                FeedNamesNext::Done => {
+                    return PassRead::Past(Cursor { at: rest.at });
+                }
+                FeedNamesNext::Refused(n) => {
+                    return PassRead::Refused(n);
+                }
+            }
+        }
+    }
+}
+
+// A frame of a laser feed.
+pub struct LaserFeedFrame {
+    // as in LaserFeedList
+    pub source_key: u32,
+    // 0-based
+    pub feed_index: u8,
+    // 0-based, to detect frames out of order
+    pub frame_sequence: u32,
+    pub points: LaserPoints,
+}
+
+pub enum LaserFeedFrameRead {
+    Read(LaserFeedFrame, Cursor),
+    Refused(u8),
+}
 
 impl LaserFeedFrame {
     pub const CONTENT_TYPE: u32 = 0x00030200;
+
+    pub fn point_count(self) -> u16
+        ensures { λ r. ⌜ r ≡ self .points .left ⌝ }
+    {
+        self.points.left
+    }
+
+    pub fn read_from_bytes(body: &[u8]) -> LaserFeedFrameRead
+        ensures { λ r. ⌜ laserFeedFrameSays r ≡ view laserFeedFrame (now (body .entry)) 0 ⌝ }
+    {
+        let c = Cursor { at: 0 };
+        let U32Read::Read(source_key, c) = c.u32(body) else {
+            return LaserFeedFrameRead::Refused(7);
+        };
+        let U8Read::Read(feed_index, c) = c.u8(body) else {
+            return LaserFeedFrameRead::Refused(7);
+        };
+        let U32Read::Read(frame_sequence, c) = c.u32(body) else {
+            return LaserFeedFrameRead::Refused(7);
+        };
+        let ItemsRead::Read(items, c) = c.items(body, LaserPoint::WIDTH) else {
+            return LaserFeedFrameRead::Refused(7);
+        };
+        let points = LaserPoints {
+            at: items.at,
+            left: items.left,
+        };
+        LaserFeedFrameRead::Read(
+            LaserFeedFrame {
+                source_key,
+                feed_index,
+                frame_sequence,
+                points,
+            },
+            c,
+        )
+    }
 
     // The frame up to its points.
     pub fn write_head(
@@ -366,6 +517,7 @@ impl LaserFeedFrame {
 }
 
 // A point of a frame.
+#[repr(C)]
 pub struct LaserPoint {
     pub x_low_byte: u8,
     pub y_low_byte: u8,
@@ -375,11 +527,45 @@ pub struct LaserPoint {
     pub color: u16,
 }
 
+enum LaserPointRead {
+    Read(LaserPoint, Cursor),
+    Short,
+}
+
 impl LaserPoint {
+    // The bytes of a point.
+    const WIDTH: usize = 5;
+
+    fn read_from_bytes(c: Cursor, body: &[u8]) -> LaserPointRead
+        ensures { λ r. ⌜ laserPointSays r ≡ view laserPointFormat (now (body .entry)) (c .at) ⌝ }
+    {
+        let U8Read::Read(x_low_byte, c) = c.u8(body) else {
+            return LaserPointRead::Short;
+        };
+        let U8Read::Read(y_low_byte, c) = c.u8(body) else {
+            return LaserPointRead::Short;
+        };
+        let U8Read::Read(xy_high_nibbles, c) = c.u8(body) else {
+            return LaserPointRead::Short;
+        };
+        let U16Read::Read(color, c) = c.u16(body) else {
+            return LaserPointRead::Short;
+        };
+        LaserPointRead::Read(
+            LaserPoint {
+                x_low_byte,
+                y_low_byte,
+                xy_high_nibbles,
+                color,
+            },
+            c,
+        )
+    }
+
     pub fn size_bytes() -> usize
         ensures { λ r. ⌜ r ≡ size laserPointFormat (0, (0, (0, 0))) ⌝ }
     {
-        5
+        LaserPoint::WIDTH
     }
 
     pub fn write_to_bytes(self, out: &mut [u8], at: usize) -> Put
@@ -398,6 +584,40 @@ impl LaserPoint {
     }
 }
 
+// What is left of a list of points.
+pub struct LaserPoints {
+    pub at: usize,
+    pub left: u16,
+}
+
+pub enum LaserPointsNext {
+    Item(LaserPoint, LaserPoints),
+    Done,
+    Refused(u8),
+}
+
+impl LaserPoints {
+    pub fn next(self, body: &[u8]) -> LaserPointsNext
+        ensures { λ r. ⌜ laserPointsNextSays r ≡ stepped laserPointFormat (now (body .entry)) (self .at) (self .left) ⌝ }
+    {
+        let left = self.left;
+        if left == 0 {
+            return LaserPointsNext::Done;
+        }
+        let c = Cursor { at: self.at };
+        let LaserPointRead::Read(point, c) = LaserPoint::read_from_bytes(c, body) else {
+            return LaserPointsNext::Refused(7);
+        };
+        LaserPointsNext::Item(
+            point,
+            LaserPoints {
+                at: c.at,
+                left: left - 1,
+            },
+        )
+    }
+}
+
 // ---- messages
 
 // A message of one kind.
@@ -406,6 +626,8 @@ pub enum Message {
     FixtureList(FixtureList),
     FixtureRemove(FixtureRemove),
     LaserFeedControl(LaserFeedControl),
+    LaserFeedList(LaserFeedList),
+    LaserFeedFrame(LaserFeedFrame),
 }
 
 // A message with the cursor behind its body; a content type of no kind that is read; a body that cannot be read.
@@ -438,6 +660,14 @@ impl Message {
                     c,
                 ),
                 LaserFeedControlRead::Refused(n) => MessageRead::Refused(n),
+            },
+            LaserFeedList::CONTENT_TYPE => match LaserFeedList::read_from_bytes(body) {
+                LaserFeedListRead::Read(m, c) => MessageRead::Read(Message::LaserFeedList(m), c),
+                LaserFeedListRead::Refused(n) => MessageRead::Refused(n),
+            },
+            LaserFeedFrame::CONTENT_TYPE => match LaserFeedFrame::read_from_bytes(body) {
+                LaserFeedFrameRead::Read(m, c) => MessageRead::Read(Message::LaserFeedFrame(m), c),
+                LaserFeedFrameRead::Refused(n) => MessageRead::Refused(n),
             },
             _ => MessageRead::Unknown,
         }

@@ -1,6 +1,14 @@
--- The rules of the loops over identifiers and over fixtures.
+-- The rules of the loops over identifiers, fixtures, feed names and points.
 use mathlib.Core.Path.{refl}
-use Rattle.protocol.specs.Kind.{identifierFormat, fixtureFormat}
+use Rattle.format.specs.Format.{ucs2}
+use Rattle.protocol.specs.Kind.{identifierFormat, fixtureFormat, laserPointFormat}
+use Rattle.caex.specs.Says.{feedNamesNextSays, laserPointsNextSays}
+use Rattle.caex.specs.Write.{pointValue}
+use Rattle.caex.specs.declared.FeedNames.{FeedNames}
+use Rattle.caex.specs.declared.FeedNamesNext.the-variants as feed-names-next
+use Rattle.caex.specs.declared.LaserPoints.{LaserPoints}
+use Rattle.caex.specs.declared.LaserPointsNext.the-variants as laser-points-next
+use Rattle.fixture.specs.Parts.{range}
 use Rattle.fixture.specs.Says.{identifiersNextSays, identifierView, fixturesNextSays, fixtureView}
 use Rattle.fixture.specs.declared.Identifiers.{Identifiers}
 use Rattle.fixture.specs.declared.IdentifiersNext.the-variants as identifiers-next
@@ -14,3 +22,11 @@ identifiers = itemized _ _ _ _ _ _ _ _ names.identifier (λ a x. refl) refl (λ 
 
 pub fixtures : Itemized fixtureFormat fixturesNextSays fixtures-next.Item fixtures-next.Done fixtures-next.Refused (λ (l : Fixtures). l .at) (λ (l : Fixtures). l .left) fixtureView
 fixtures = itemized _ _ _ _ _ _ _ _ names.fixture (λ a x. refl) refl (λ k. refl)
+
+pub feed-names : Itemized ucs2 feedNamesNextSays feed-names-next.Item feed-names-next.Done feed-names-next.Refused (λ (l : FeedNames). l .at)
+    (λ (l : FeedNames). l .left) range
+feed-names = itemized _ _ _ _ _ _ _ _ (names.ucs2Of "feed_names") (λ a x. refl) refl (λ k. refl)
+
+pub laser-points : Itemized laserPointFormat laserPointsNextSays laser-points-next.Item laser-points-next.Done laser-points-next.Refused
+    (λ (l : LaserPoints). l .at) (λ (l : LaserPoints). l .left) pointValue
+laser-points = itemized _ _ _ _ _ _ _ _ names.laserPoint (λ a x. refl) refl (λ k. refl)

@@ -7,13 +7,21 @@ ghost use Rattle.protocol.specs.Kind as kind;
 ghost use Rattle.text.specs.Text.{hex, line};
 ghost use Rattle.lines.specs.Lines.{itemLines, Lists};
 ghost use Rattle.caex.specs.Says as caexSays;
+ghost use Rattle.caex.specs.Write.{pointValue};
 ghost use Rattle.fixture.specs.Says as fixtureSays;
 ghost use Rattle.names.specs.Names as names;
 ghost use Rattle.names.specs.Messages.{messageLines};
 use caex::EnterShow;
+use caex::FeedNames;
+use caex::FeedNamesNext;
 use caex::FixtureList;
 use caex::FixtureRemove;
 use caex::LaserFeedControl;
+use caex::LaserFeedFrame;
+use caex::LaserFeedList;
+use caex::LaserPoint;
+use caex::LaserPoints;
+use caex::LaserPointsNext;
 use fixture::Fixture;
 use fixture::FixtureData;
 use fixture::FixtureDataStrings;
@@ -239,6 +247,99 @@ fn put_fixtures(out: &mut [u8], from: u32, at: usize, list: Fixtures, body: &[u8
     put_fixture_items(out, from, at, list, body)
 }
 
+// ---- laser feeds
+
+fn put_feed_name_items(out: &mut [u8], from: u32, at: usize, list: FeedNames, body: &[u8]) -> usize
+    ensures { λ r. ⌜ Prints from (itemLines (names.ucs2Of "feed_names") (now (body .entry)) (list .at) (list .left))
+        at (now (out .entry)) r (now (out .exit)) ⌝ }
+{
+    let mut next = at;
+    let mut rest = list;
+    loop {
+        match rest.next(body) {
+            FeedNamesNext::Item(x, more) => {
+                next = put_ucs2(out, from, next, b"feed_names", x, body);
+                rest = more;
+            }
+            FeedNamesNext::Done => {
+                return next;
+            }
+            FeedNamesNext::Refused(_) => {
+                return next;
+            }
+        }
+    }
+}
+
+fn put_feed_names(out: &mut [u8], from: u32, at: usize, list: FeedNames, body: &[u8]) -> usize
+    ensures { λ r. ⌜ Lists from (names.listOf {w = 1} "feed_count" (names.ucs2Of "feed_names")) (now (body .entry)) (list .at, list .left)
+        at (now (out .entry)) r (now (out .exit)) ⌝ }
+{
+    let at = put_decimal_line(out, from, at, b"feed_count", list.left as usize);
+    put_feed_name_items(out, from, at, list, body)
+}
+
+fn put_laser_point(out: &mut [u8], from: u32, at: usize, x: LaserPoint, body: &[u8]) -> usize
+    ensures { λ r. ⌜ Lists from names.laserPoint (now (body .entry)) (pointValue x) at (now (out .entry)) r (now (out .exit)) ⌝ }
+{
+    let at = put_decimal_line(out, from, at, b"x_low_byte", x.x_low_byte as usize);
+    let at = put_decimal_line(out, from, at, b"y_low_byte", x.y_low_byte as usize);
+    let at = put_decimal_line(
+        out,
+        from,
+        at,
+        b"xy_high_nibbles",
+        x.xy_high_nibbles as usize,
+    );
+    put_decimal_line(out, from, at, b"color", x.color as usize)
+}
+
+fn put_laser_point_items(
+    out: &mut [u8],
+    from: u32,
+    at: usize,
+    list: LaserPoints,
+    body: &[u8],
+) -> usize
+    ensures { λ r. ⌜ Prints from (itemLines names.laserPoint (now (body .entry)) (list .at) (list .left))
+        at (now (out .entry)) r (now (out .exit)) ⌝ }
+{
+    let mut next = at;
+    let mut rest = list;
+    loop {
+        match rest.next(body) {
+            LaserPointsNext::Item(x, more) => {
+                next = put_laser_point(out, from, next, x, body);
+                rest = more;
+            }
+            LaserPointsNext::Done => {
+                return next;
+            }
+            LaserPointsNext::Refused(_) => {
+                return next;
+            }
+        }
+    }
+}
+
+fn put_laser_points(out: &mut [u8], from: u32, at: usize, list: LaserPoints, body: &[u8]) -> usize
+    ensures { λ r. ⌜ Lists from (names.listOf {w = 2} "point_count" names.laserPoint) (now (body .entry)) (list .at, list .left)
+        at (now (out .entry)) r (now (out .exit)) ⌝ }
+{
+    let at = put_decimal_line(out, from, at, b"point_count", list.left as usize);
+    put_laser_point_items(out, from, at, list, body)
+}
+
+fn put_frame(out: &mut [u8], from: u32, at: usize, x: LaserFeedFrame, body: &[u8]) -> usize
+    ensures { λ r. ⌜ Lists from (names.listed kind.LaserFeedFrame) (now (body .entry)) (caexSays.laserFeedFrameView x)
+        at (now (out .entry)) r (now (out .exit)) ⌝ }
+{
+    let at = put_decimal_line(out, from, at, b"source_key", x.source_key as usize);
+    let at = put_decimal_line(out, from, at, b"feed_index", x.feed_index as usize);
+    let at = put_decimal_line(out, from, at, b"frame_sequence", x.frame_sequence as usize);
+    put_laser_points(out, from, at, x.points, body)
+}
+
 // ---- kinds
 
 fn put_enter_show(out: &mut [u8], from: u32, at: usize, x: EnterShow, body: &[u8]) -> usize
@@ -286,6 +387,29 @@ fn put_laser_feed_control(
     put_decimal_line(out, from, at, b"frame_rate", x.frame_rate as usize)
 }
 
+fn put_laser_feed_list(out: &mut [u8], from: u32, at: usize, x: LaserFeedList, body: &[u8]) -> usize
+    ensures { λ r. ⌜ Prints from (messageLines kind.LaserFeedList none (now (body .entry)) (caexSays.laserFeedListView x))
+        at (now (out .entry)) r (now (out .exit)) ⌝ }
+{
+    let at = put_chars_line(out, from, at, b"kind", b"LaserFeedList");
+    let at = put_decimal_line(out, from, at, b"source_key", x.source_key as usize);
+    put_feed_names(out, from, at, x.feed_names, body)
+}
+
+fn put_laser_feed_frame(
+    out: &mut [u8],
+    from: u32,
+    at: usize,
+    x: LaserFeedFrame,
+    body: &[u8],
+) -> usize
+    ensures { λ r. ⌜ Prints from (messageLines kind.LaserFeedFrame none (now (body .entry)) (caexSays.laserFeedFrameView x))
+        at (now (out .entry)) r (now (out .exit)) ⌝ }
+{
+    let at = put_chars_line(out, from, at, b"kind", b"LaserFeedFrame");
+    put_frame(out, from, at, x, body)
+}
+
 // A message of CAEX.
 pub fn put_caex(out: &mut [u8], from: u32, at: usize, m: caex::Message, body: &[u8]) -> usize
     ensures { λ r. ⌜ Prints from (messageLines (caexSays.messageKind m) none (now (body .entry)) (caexSays.messageView m)) at (now (out .entry)) r (now (out .exit)) ⌝ }
@@ -295,5 +419,7 @@ pub fn put_caex(out: &mut [u8], from: u32, at: usize, m: caex::Message, body: &[
         caex::Message::FixtureList(x) => put_fixture_list(out, from, at, x, body),
         caex::Message::FixtureRemove(x) => put_fixture_remove(out, from, at, x, body),
         caex::Message::LaserFeedControl(x) => put_laser_feed_control(out, from, at, x, body),
+        caex::Message::LaserFeedList(x) => put_laser_feed_list(out, from, at, x, body),
+        caex::Message::LaserFeedFrame(x) => put_laser_feed_frame(out, from, at, x, body),
     }
 }

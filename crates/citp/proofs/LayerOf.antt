@@ -57,6 +57,8 @@ caex-layer (caex-case.EnterShow x) = refl
 caex-layer (caex-case.FixtureList x) = refl
 caex-layer (caex-case.FixtureRemove x) = refl
 caex-layer (caex-case.LaserFeedControl x) = refl
+caex-layer (caex-case.LaserFeedList x) = refl
+caex-layer (caex-case.LaserFeedFrame x) = refl
 
 -- the headers of a message, by its layer
 pub length-as : (l : Layer) {k : Kind} {m x : Message} → m ≡ x → messageKind x ≡ k → layer k ≡ l → headerLength l ≡ headerLength (layer (messageKind m))

@@ -1,5 +1,5 @@
-// Runs the edges of the scope that are not among the proved examples, and those beside them. Standard input has the packets to read, one to a
-// line; what is written stands below. The file stdout has what each must give.
+// Runs the edges of the scope and of the requests that are not among the proved examples, and those beside them. Standard input has the
+// packets to read, one to a line; what is written stands below. The file stdout has what each must give.
 ghost use mathlib.Core.Path.{_≡_};
 ghost use Prim.Native.Nat.{_≤_};
 ghost use lib.ListN.{length};
@@ -53,6 +53,10 @@ const IDENTIFIER_TYPE: Label = *b"  identifier_type       ";
 
 const DATA_SIZE: Label = *b"  data_size             ";
 
+const FEED_COUNT: Label = *b"  feed_count            ";
+
+const POINT_COUNT: Label = *b"  point_count           ";
+
 fn text(s: &[u8]) {
     io::write_all(STDOUT_FILENO, s);
 }
@@ -81,15 +85,17 @@ fn show_fixture(fixtures: Fixtures, body: &[u8]) {
     show_identifier(fixture.identifiers, body);
 }
 
-// Of a fixture list the first identifier of its first fixture.
+// Of a fixture list the first identifier of its first fixture, of a laser feed its count.
 fn show_message(message: Message, body: &[u8]) {
     let Message::Caex(message) = message else {
         return;
     };
-    let caex::Message::FixtureList(list) = message else {
-        return;
-    };
-    show_fixture(list.fixtures, body);
+    match message {
+        caex::Message::FixtureList(list) => show_fixture(list.fixtures, body),
+        caex::Message::LaserFeedList(list) => show(FEED_COUNT, list.feed_count() as u64),
+        caex::Message::LaserFeedFrame(frame) => show(POINT_COUNT, frame.point_count() as u64),
+        _ => {}
+    }
 }
 
 fn show_packet(p: PacketReport, s: &[u8]) {

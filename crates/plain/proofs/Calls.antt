@@ -1,13 +1,12 @@
 -- The packet writer over plain fields: kinds by their codes, and a call from what its parts answer.
 use Prim.Native.Nat.{ℕ, zero, suc}
 use mathlib.Core.Path.{_≡_, refl, sym, ap, _∙_}
-use mathlib.Core.Bool.{Bool, true, false, false≢true}
 use mathlib.Core.List.{List}
-use mathlib.Core.Option.{Option, none, some}
+use mathlib.Core.Option.{none, some}
 use borrow.Author.Tests.{ne-eqb}
 use Rattle.protocol.specs.Layer.{Layer, find}
-use Rattle.protocol.specs.Kind.{Kind, index, sameKind}
-use Rattle.protocol.proofs.Every.{every, every-kind, same-kind}
+use Rattle.protocol.specs.Kind.{Kind, index}
+use Rattle.protocol.proofs.Every.{every, found-kind}
 use Rattle.writing.specs.Call.{Call}
 use Rattle.writing.specs.Writer.{idle, bodyDue, itemsDue, partsDue, Writer, Outcome, apply}
 use Rattle.turns.specs.Says.{figuresSay, turnIs}
@@ -19,20 +18,9 @@ use Rattle.plain.specs.declared.state.WriterAnswer.{WriterAnswer}
 
 -- ---- kinds by their codes
 
-abbrev isKind : Kind → Option Kind → Bool
-isKind k none = false
-isKind k (some j) = sameKind j k
-
-kind-test : (k : Kind) → isKind k (kindAt (index k)) ≡ true
-unfolding every kindAt find
-kind-test k = every-kind (λ k. isKind k (kindAt (index k))) refl k
-
 pub kind-found : (k : Kind) → kindAt (index k) ≡ some k
-kind-found k = on (kindAt (index k)) (kind-test k)
-  where
-    on : (x : Option Kind) → isKind k x ≡ true → x ≡ some k
-    on none h = absurd (false≢true h)
-    on (some j) h = ap some (same-kind j k h)
+unfolding every kindAt find
+kind-found k = found-kind (λ k. kindAt (index k)) refl k
 
 pub kind-at : (k : Kind) {code : ℕ} → code ≡ index k → some k ≡ kindAt code
 kind-at k e = sym (ap kindAt e ∙ kind-found k)

@@ -1,11 +1,11 @@
 -- The packet writer's state as plain fields, and what its calls answer.
 use Prim.Native.Nat.{ℕ, zero, suc, _%_}
-use mathlib.Core.List.{List, [], _∷_, _++_}
+use mathlib.Core.List.{List}
 use mathlib.Core.Option.{Option, none, some}
 use lib.Dec.{eqb}
 use Rattle.format.specs.Format.{pick}
 use Rattle.protocol.specs.Layer.{find}
-use Rattle.protocol.specs.Kind.{Kind, EnterShow, FixtureList, LaserFeedList, LaserFeedFrame, index, kinds}
+use Rattle.protocol.specs.Kind.{Kind, EnterShow, FixtureList, index, kinds}
 use Rattle.writing.specs.Call.{Call}
 use Rattle.writing.specs.Writer.{Turn, idle, bodyDue, itemsDue, partsDue, Writer, apply}
 use Rattle.turns.specs.Says.{kindIs}
@@ -22,7 +22,7 @@ kindSays kind-found.Unknown = none
 
 -- the kind whose index is the code
 unfoldable pub kindAt : ℕ → Option Kind
-kindAt code = find (λ k. eqb (index k) code) (kinds ++ (LaserFeedList ∷ LaserFeedFrame ∷ []))
+kindAt code = find (λ k. eqb (index k) code) kinds
 
 abbrev pub byKind : {A : Type 0} → (Kind → A) → A → Option Kind → A
 byKind known unknown none = unknown

@@ -95,6 +95,8 @@ fn caex_kind(m: caex::Message) -> u8
         caex::Message::FixtureList(_) => 1,
         caex::Message::FixtureRemove(_) => 2,
         caex::Message::LaserFeedControl(_) => 3,
+        caex::Message::LaserFeedList(_) => 18,
+        caex::Message::LaserFeedFrame(_) => 19,
     }
 }
 

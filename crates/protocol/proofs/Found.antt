@@ -19,7 +19,7 @@ use Rattle.format.proofs.Look.{holds}
 use Rattle.format.specs.Walk.{Step, report}
 use Rattle.format.specs.Fault.{limit}
 use Rattle.protocol.specs.Layer.{Layer, cookie, headerLength, hinted, header, layerHeader, requestField, sizeField, countField, partField, layerField}
-use Rattle.protocol.specs.Kind.{layer, contentType, bodyOf, isRead}
+use Rattle.protocol.specs.Kind.{layer, contentType, bodyOf}
 use Rattle.protocol.specs.Step as reported
 use Rattle.protocol.specs.Step.{Report, contentAt, stepRest, stepAt, readBody}
 use Rattle.protocol.specs.Message.{Message, headerOf, headersOf, packetSize, packet, Sendable, raised}
@@ -146,11 +146,11 @@ body-view : (m : Message) (added : List ℕ) → Valid (bodyOf (m .kind)) (m .va
 unfolding view placed
 body-view m added v = rw (round-trip (bodyOf (m .kind)) (m .value) added v)
 
-pub message-content : (at : ℕ) (m : Message) (added : List ℕ) → Sendable m → isRead (m .kind) ≡ true
+pub message-content : (at : ℕ) (m : Message) (added : List ℕ) → Sendable m
     → contentAt at (headerOf (layer (m .kind)) (packetSize m + length added) (m .request)) (sent m added)
     ≡ reported.message (m .kind) (at + headerLength (layer (m .kind))) (hinted (layer (m .kind)) (m .hint)) (place (bodyOf (m .kind)) 0 (m .value)) (length added)
 unfolding contentAt readBody packetSize
-message-content at m added ok r =
+message-content at m added ok =
     let k = m .kind in
     let l = layer k in
     let n = packetSize m + length added in
@@ -164,7 +164,7 @@ message-content at m added ok r =
       le-ltb (length p) (headerLength l) short,
       behind-header k n (m .request) (m .hint) (b ++ added),
       layer-read k (m .hint) (b ++ added) (ok .hint-fits),
-      kind-found k r,
+      kind-found k,
       behind-headers k n (m .request) (m .hint) (b ++ added),
       body-view m added (ok .valid),
       hint-told l (m .hint),

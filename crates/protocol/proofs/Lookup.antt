@@ -1,17 +1,17 @@
--- A layer is found by its cookie, a kind that is read by its layer and content type, and nothing else is found.
+-- A layer is found by its cookie, a kind by its layer and content type, and nothing else is found.
 use Prim.Native.Nat.{ℕ}
 use mathlib.Core.Path.{_≡_, refl, sym, ap, _∙_}
-use mathlib.Core.Bool.{Bool, true, false, not, _&&_, false≢true, true≢false}
+use mathlib.Core.Bool.{Bool, true, false, _&&_}
 use mathlib.Core.List.{List, [], _∷_}
 use mathlib.Core.Option.{Option, none, some}
 use lib.Dec.{eqb}
-use borrow.Author.Tests.{eqb-true, not-true}
-use Rattle.format.specs.Format.{pick, All}
+use borrow.Author.Tests.{eqb-true}
+use Rattle.format.specs.Format.{pick}
 use Rattle.format.proofs.Bools.{both}
 use Rattle.protocol.specs.Layer.{Layer, PINF, SDMX, FPTC, FSEL, FINF, CAEX, cookie, find, layers, layerOf}
-use Rattle.protocol.specs.Kind.{Kind, layer, contentType, sameKind, kinds, isRead, kindOf}
+use Rattle.protocol.specs.Kind.{Kind, layer, contentType, kinds, kindOf}
 use Rattle.protocol.specs.Packet.{NoLayer, NoKind}
-use Rattle.protocol.proofs.Every.{every, every-all, every-kind, same-kind}
+use Rattle.protocol.proofs.Every.{every, found-kind}
 
 -- ---- what is found passed the test
 
@@ -27,13 +27,13 @@ finds-none : {A : Type 0} {P : A → Type 0} {r : Option A} → ((x : A) → P x
 finds-none h nothing = refl
 finds-none h (found {x} p) = absurd (h x p)
 
-find-finds : {A : Type 0} (test : A → Bool) (Q : A → Type 0) (xs : List A) → All Q xs → Finds (λ x. (test x ≡ true) × Q x) (find test xs)
+find-finds : {A : Type 0} (test : A → Bool) (xs : List A) → Finds (λ x. test x ≡ true) (find test xs)
 unfolding find
-find-finds test Q [] h = nothing
-find-finds test Q (x ∷ xs) h = by (test x) refl (find-finds test Q xs (h .1))
+find-finds test [] = nothing
+find-finds test (x ∷ xs) = by (test x) refl (find-finds test xs)
   where
-    by : (b : Bool) → test x ≡ b → Finds (λ x. (test x ≡ true) × Q x) (find test xs) → Finds (λ x. (test x ≡ true) × Q x) (pick b (some x) (find test xs))
-    by true e k = found (e, h .0)
+    by : (b : Bool) → test x ≡ b → Finds (λ x. test x ≡ true) (find test xs) → Finds (λ x. test x ≡ true) (pick b (some x) (find test xs))
+    by true e k = found e
     by false e k = k
 
 -- ---- layers
@@ -47,17 +47,17 @@ layer-found FSEL = refl
 layer-found FINF = refl
 layer-found CAEX = refl
 
-layer-finds : (c : ℕ) → Finds (λ l. (eqb (cookie l) c ≡ true) × Unit {0}) (layerOf c)
+layer-finds : (c : ℕ) → Finds (λ l. eqb (cookie l) c ≡ true) (layerOf c)
 unfolding layerOf
-layer-finds c = find-finds (λ l. eqb (cookie l) c) (λ l. Unit {0}) layers (tt, (tt, (tt, (tt, (tt, (tt, tt))))))
+layer-finds c = find-finds (λ l. eqb (cookie l) c) layers
 
 pub layer-known : (c : ℕ) (l : Layer) → layerOf c ≡ some l → cookie l ≡ c
 layer-known c l e =
-    let f : Finds (λ x. (eqb (cookie x) c ≡ true) × Unit {0}) (some l) = rw e at (layer-finds c) in
-    eqb-true (cookie l) c (found-is f .0)
+    let f : Finds (λ x. eqb (cookie x) c ≡ true) (some l) = rw e at (layer-finds c) in
+    eqb-true (cookie l) c (found-is f)
 
 pub no-layer : (c : ℕ) → NoLayer c → layerOf c ≡ none
-no-layer c h = finds-none (λ l e. h l (sym (eqb-true (cookie l) c (e .0)))) (layer-finds c)
+no-layer c h = finds-none (λ l e. h l (sym (eqb-true (cookie l) c e))) (layer-finds c)
 
 abbrev layerOr : Layer → Option Layer → Layer
 layerOr d none = d
@@ -69,50 +69,28 @@ same-layer a b e =
 
 -- ---- kinds
 
--- the kind is found if it is read, and nothing if it isn't
-abbrev findsKind : Kind → Option Kind → Bool
-findsKind k none = not (isRead k)
-findsKind k (some j) = isRead k && sameKind j k
-
-kind-test : (k : Kind) → findsKind k (kindOf (layer k) (contentType k)) ≡ true
+pub kind-found : (k : Kind) → kindOf (layer k) (contentType k) ≡ some k
 unfolding every kindOf find
-kind-test k = every-kind (λ k. findsKind k (kindOf (layer k) (contentType k))) refl k
+kind-found k = found-kind (λ k. kindOf (layer k) (contentType k)) refl k
 
-pub kind-found : (k : Kind) → isRead k ≡ true → kindOf (layer k) (contentType k) ≡ some k
-kind-found k r = on (kindOf (layer k) (contentType k)) (kind-test k)
-  where
-    on : (x : Option Kind) → findsKind k x ≡ true → x ≡ some k
-    on none h = absurd (true≢false (sym r ∙ not-true (isRead k) h))
-    on (some j) h = ap some (same-kind j k (both (isRead k) (sameKind j k) h .1))
-
--- a kind that is written only is not found
-pub kind-unread : (k : Kind) → isRead k ≡ false → kindOf (layer k) (contentType k) ≡ none
-kind-unread k u = on (kindOf (layer k) (contentType k)) (kind-test k)
-  where
-    on : (x : Option Kind) → findsKind k x ≡ true → x ≡ none
-    on none h = refl
-    on (some j) h = absurd (false≢true (sym u ∙ both (isRead k) (sameKind j k) h .0))
-
-kind-finds : (l : Layer) (type : ℕ) → Finds (λ k. ((eqb (cookie (layer k)) (cookie l) && eqb (contentType k) type) ≡ true) × (isRead k ≡ true)) (kindOf l type)
-unfolding kindOf every
-kind-finds l type =
-    find-finds (λ k. eqb (cookie (layer k)) (cookie l) && eqb (contentType k) type) (λ k. isRead k ≡ true) kinds (every-all isRead kinds refl)
+kind-finds : (l : Layer) (type : ℕ) → Finds (λ k. (eqb (cookie (layer k)) (cookie l) && eqb (contentType k) type) ≡ true) (kindOf l type)
+unfolding kindOf
+kind-finds l type = find-finds (λ k. eqb (cookie (layer k)) (cookie l) && eqb (contentType k) type) kinds
 
 -- what it found
 pub record Known (l : Layer) (type : ℕ) (k : Kind) : Type 0 where
   pub layer-is : layer k ≡ l
   pub type-is : contentType k ≡ type
-  pub is-read : isRead k ≡ true
 
-known : (l : Layer) (type : ℕ) (k : Kind) → ((eqb (cookie (layer k)) (cookie l) && eqb (contentType k) type) ≡ true) × (isRead k ≡ true) → Known l type k
+known : (l : Layer) (type : ℕ) (k : Kind) → (eqb (cookie (layer k)) (cookie l) && eqb (contentType k) type) ≡ true → Known l type k
 known l type k h =
-    let b = both (eqb (cookie (layer k)) (cookie l)) (eqb (contentType k) type) (h .0) in
-    record { layer-is = same-layer (layer k) l (b .0); type-is = eqb-true (contentType k) type (b .1); is-read = h .1 }
+    let b = both (eqb (cookie (layer k)) (cookie l)) (eqb (contentType k) type) h in
+    record { layer-is = same-layer (layer k) l (b .0); type-is = eqb-true (contentType k) type (b .1) }
 
 pub kind-known : (l : Layer) (type : ℕ) (k : Kind) → kindOf l type ≡ some k → Known l type k
 kind-known l type k e =
-    let f : Finds (λ x. ((eqb (cookie (layer x)) (cookie l) && eqb (contentType x) type) ≡ true) × (isRead x ≡ true)) (some k) = rw e at (kind-finds l type) in
+    let f : Finds (λ x. (eqb (cookie (layer x)) (cookie l) && eqb (contentType x) type) ≡ true) (some k) = rw e at (kind-finds l type) in
     known l type k (found-is f)
 
 pub no-kind : (l : Layer) (type : ℕ) → NoKind l type → kindOf l type ≡ none
-no-kind l type h = finds-none (λ k e. let n = known l type k e in h k (n .is-read) (n .layer-is) (sym (n .type-is))) (kind-finds l type)
+no-kind l type h = finds-none (λ k e. let n = known l type k e in h k (n .layer-is) (sym (n .type-is))) (kind-finds l type)

@@ -1,6 +1,6 @@
 -- The twenty kinds: order, layer, content type and body of each.
 use Prim.Native.Nat.{ℕ}
-use mathlib.Core.Bool.{Bool, false, _&&_, _||_}
+use mathlib.Core.Bool.{Bool, _&&_}
 use mathlib.Core.List.{List, [], _∷_}
 use mathlib.Core.Option.{Option}
 use lib.Dec.{eqb}
@@ -91,19 +91,12 @@ sameKind j k = eqb (index j) (index k)
 
 -- ---- which kind a packet is
 
--- the kinds that are read; laser feeds are written only
+-- the kinds in their order
 abbrev pub kinds : List Kind
 kinds =
     EnterShow ∷ FixtureList ∷ FixtureRemove ∷ LaserFeedControl ∷ Capa ∷ UNam ∷ ChBk ∷ ChLs ∷ Sxus ∷ Ptch ∷ UPtc ∷ SPtc ∷ Sele ∷ DeSe ∷ SFra ∷ Fram
-    ∷ PNam ∷ PLoc ∷ []
+    ∷ PNam ∷ PLoc ∷ LaserFeedList ∷ LaserFeedFrame ∷ []
 
-abbrev pub listed : Kind → List Kind → Bool
-listed k [] = false
-listed k (j ∷ js) = sameKind k j || listed k js
-
-abbrev pub isRead : Kind → Bool
-isRead k = listed k kinds
-
--- the kind read in a layer under a content type, if there is one
+-- the kind of a layer with a content type, if there is one
 unfoldable pub kindOf : Layer → ℕ → Option Kind
 kindOf l type = find (λ k. eqb (cookie (layer k)) (cookie l) && eqb (contentType k) type) kinds

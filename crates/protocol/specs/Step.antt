@@ -34,7 +34,7 @@ pub record Report (Fields : Format → Type 0) : Type 0 where
 
 -- ---- a body, by its layer and content type
 
--- the fields of a kind and the bytes taken; no kind that is read there; the number of a refusal
+-- the fields of a kind and the bytes taken; no kind of the layer has the content type; the number of a refusal
 pub data Body (Fields : Format → Type 0) : Type 0 where
   known : (k : Kind) → Fields (bodyOf k) → (taken : ℕ) → Body Fields
   unread : Body Fields

@@ -8,6 +8,10 @@ use caex::FixtureRemove;
 use caex::FixtureRemoveRead;
 use caex::LaserFeedControl;
 use caex::LaserFeedControlRead;
+use caex::LaserFeedFrame;
+use caex::LaserFeedFrameRead;
+use caex::LaserFeedList;
+use caex::LaserFeedListRead;
 use finf::Fram;
 use finf::FramRead;
 use finf::SFra;
@@ -111,6 +115,32 @@ pub(crate) fn laser_feed_control(body: &[u8], due: &[u8]) -> Answer {
             read(x)
         }
         LaserFeedControlRead::Refused(number) => refused(number),
+    }
+}
+
+pub(crate) fn laser_feed_list(body: &[u8], due: &[u8]) -> Answer {
+    match LaserFeedList::read_from_bytes(body) {
+        LaserFeedListRead::Read(m, c) => {
+            let x = taken(due, c);
+            let x = x.u32(due, m.source_key);
+            let x = x.u8(due, m.feed_count());
+            read(x.feed_names(due, body, m.feed_names))
+        }
+        LaserFeedListRead::Refused(number) => refused(number),
+    }
+}
+
+pub(crate) fn laser_feed_frame(body: &[u8], due: &[u8]) -> Answer {
+    match LaserFeedFrame::read_from_bytes(body) {
+        LaserFeedFrameRead::Read(m, c) => {
+            let x = taken(due, c);
+            let x = x.u32(due, m.source_key);
+            let x = x.u8(due, m.feed_index);
+            let x = x.u32(due, m.frame_sequence);
+            let x = x.u16(due, m.point_count());
+            read(x.laser_points(due, body, m.points))
+        }
+        LaserFeedFrameRead::Refused(number) => refused(number),
     }
 }
 

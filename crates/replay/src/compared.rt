@@ -1,4 +1,9 @@
 // What was read, compared with the canonical bytes that are due (differential/src/canon.rs).
+use caex::FeedNames;
+use caex::FeedNamesNext;
+use caex::LaserPoint;
+use caex::LaserPoints;
+use caex::LaserPointsNext;
 use fixture::Fixture;
 use fixture::FixtureData;
 use fixture::FixtureDataStrings;
@@ -158,6 +163,47 @@ impl Compared {
                 return x.u8(due, 0);
             };
             x = x.channel_level(due, level);
+            rest = more;
+            count += 1;
+        }
+        x
+    }
+
+    // ---- laser feeds
+
+    pub(crate) fn feed_names(self, due: &[u8], body: &[u8], list: FeedNames) -> Compared {
+        let mut x = self;
+        let mut rest = list;
+        let mut count: u64 = 0;
+        while count < 65536 {
+            let FeedNamesNext::Item(name, more) = rest.next(body) else {
+                return x.u8(due, 0);
+            };
+            x = x.u8(due, 1);
+            x = x.ucs2(due, body, name);
+            rest = more;
+            count += 1;
+        }
+        x
+    }
+
+    fn laser_point(self, due: &[u8], point: LaserPoint) -> Compared {
+        let x = self.u8(due, 1);
+        let x = x.u8(due, point.x_low_byte);
+        let x = x.u8(due, point.y_low_byte);
+        let x = x.u8(due, point.xy_high_nibbles);
+        x.u16(due, point.color)
+    }
+
+    pub(crate) fn laser_points(self, due: &[u8], body: &[u8], list: LaserPoints) -> Compared {
+        let mut x = self;
+        let mut rest = list;
+        let mut count: u64 = 0;
+        while count < 65536 {
+            let LaserPointsNext::Item(point, more) = rest.next(body) else {
+                return x.u8(due, 0);
+            };
+            x = x.laser_point(due, point);
             rest = more;
             count += 1;
         }

@@ -28,6 +28,8 @@ fn caex_or_sdmx(kind: u8, body: &[u8], due: &[u8]) -> Answer {
         5 => answers::unam(body, due),
         6 => answers::chbk(body, due),
         7 => answers::chls(body, due),
+        18 => answers::laser_feed_list(body, due),
+        19 => answers::laser_feed_frame(body, due),
         _ => answers::sxus(body, due),
     }
 }
@@ -43,7 +45,7 @@ fn answer(kind: u8, body: &[u8], due: &[u8]) -> Answer {
         15 => answers::fram(body, due),
         16 => answers::pnam(body, due),
         17 => answers::ploc(body, due),
-        18 => answers::base_header(body, due),
+        20 => answers::base_header(body, due),
         _ => caex_or_sdmx(kind, body, due),
     }
 }

@@ -46,11 +46,11 @@ alone s m e = append-nil (raised s []) ∙ ap (λ (x : List ℕ). raised x []) e
 
 pub reads-packet : claims.ReadsPacket
 unfolding reports
-reads-packet s m a r =
+reads-packet s m a =
     let is = accepted-is s m a in
     let small : packetSize m ≤ limit = is .0 .within in
     let long : length s ≡ packetSize m = ap length (is .1) ∙ length-packet m in
     let fits : length s + 0 ≤ limit = omega arith in
-    let w = walked (message m s [] ∷ []) ((a, r, fits), tt) in
+    let w = walked (message m s [] ∷ []) ((a, fits), tt) in
     let one = alone s m (is .1) in
     (rw one at (w .walked), rw one at (w .ended))

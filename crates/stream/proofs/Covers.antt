@@ -1,10 +1,9 @@
--- The hypotheses on packets leave none out: every long enough packet has its base header and layer header, and what the writer accepted of the two kinds
--- that are written only is a packet of an unknown kind.
+-- The hypotheses on packets leave none out: every long enough packet has its base header and layer header, and a message with bytes added is a valid packet
+-- exactly if it is within the limit.
 use Prim.Native.Nat.{ℕ, _+_, _^_, _≤_, _<_}
 use mathlib.Core.Path.{_≡_, refl, sym, ap, _∙_, subst}
 use mathlib.Core.Bool.{Bool, true, false, false≢true}
 use mathlib.Core.List.{List, [], _++_, append-nil}
-use mathlib.Core.Option.{Option, none, some}
 use native.Mathlib.Omega.{arith}
 use lib.ListN.{length, drop, length-append, length-drop}
 use lib.Seq.{length-sets}
@@ -16,15 +15,13 @@ use Rattle.format.proofs.Passing.{There, plain-there}
 use Rattle.format.specs.Walk.{Step, stop, report}
 use Rattle.format.specs.Fault.{limit}
 use Rattle.protocol.specs.Layer.{Layer, headerLength, header, layerHeader}
-use Rattle.protocol.specs.Kind.{Kind, layer, contentType, bodyOf, kindOf, isRead}
+use Rattle.protocol.specs.Kind.{Kind, layer, contentType, bodyOf}
 use Rattle.protocol.specs.Step.{stepRest, stepAt}
 use Rattle.protocol.specs.Message.{Message, headerOf, headersOf, packetSize, raised}
-use Rattle.protocol.proofs.Headers.{header-length, header-valid, hintRead, hint-fits, hint-sent, type-fits, headers-read, layer-read, behind-header}
-use Rattle.protocol.proofs.Lookup.{kind-found, kind-unread}
-use Rattle.stream.specs.Packets.{unknownKind, Admissible}
-use Rattle.stream.specs.Accepted.{Accepted}
-use Rattle.protocol.specs.Packet.{ValidPacket, HasLayer}
+use Rattle.protocol.specs.Packet.{ValidPacket, Whole}
+use Rattle.protocol.proofs.Headers.{header-length, header-valid, hintRead, hint-fits, hint-sent, type-fits, headers-read, behind-header}
 use Rattle.protocol.proofs.Found.{valid-starts, sent, length-sent, step-message}
+use Rattle.stream.specs.Accepted.{Accepted}
 use Rattle.stream.proofs.Walked.{is-sent}
 
 -- ---- every packet of 20 bytes has a base header, every longer one of a known layer its layer header
@@ -56,7 +53,7 @@ valid-message h accepted added v =
       length-append accepted added,
     )
 
--- ---- what was accepted of a kind that the reader doesn't know
+-- ---- and one within the limit is valid by its base header, and whole
 
 headers-bytes : (k : Kind) (n request hint : ℕ) → n < 256 ^ 4 → request < 65536 → hint < 4294967296 → Bytes (headersOf k n request hint)
 unfolding headersOf
@@ -75,10 +72,10 @@ no-stop {R} e = false≢true (ap isStop e)
     isStop (stop n o) = true
     isStop (report r k) = false
 
-pub unread-admissible : (m : Message) (accepted added : List ℕ) → Accepted accepted m → isRead (m .kind) ≡ false → Bytes added → length accepted + length added ≤ limit
-    → Admissible (unknownKind (headerOf (layer (m .kind)) (packetSize m + length added) (m .request)) (layer (m .kind)) (contentType (m .kind)) (raised accepted added))
+pub message-valid : (m : Message) (accepted added : List ℕ) → Accepted accepted m → Bytes added → length accepted + length added ≤ limit
+    → let h = headerOf (layer (m .kind)) (packetSize m + length added) (m .request) in ValidPacket h (raised accepted added) × Whole h
 unfolding stepAt
-unread-admissible m accepted added a u bs l =
+message-valid m accepted added a bs l =
     let k = m .kind in
     let t = is-sent m accepted added a l in
     let n = packetSize m + length added in
@@ -100,22 +97,4 @@ unread-admissible m accepted added a u bs l =
       passes = λ i p q e. no-stop (sym reports ∙ e);
     } in
     let one : 1 ≤ 1 = omega arith in
-    let layered : HasLayer (layer k) (contentType k) h (sent m added) = record {
-      hint = hintRead (layer k) (m .hint);
-      rest = b ++ added;
-      cookie-is = refl;
-      complete = ap (decode (layerHeader (layer k))) (behind-header k n (m .request) (m .hint) (b ++ added)) ∙ layer-read k (m .hint) (b ++ added) (t .ok .hint-fits);
-    } in
-    let as-sent = sym (t .as-sent) in (
-      subst (ValidPacket h) as-sent valid,
-      (one, refl),
-      subst (HasLayer (layer k) (contentType k) h) as-sent layered,
-      λ j r e x. none-some (sym (kind-unread k u) ∙ ap (kindOf (layer k)) x ∙ ap (λ (q : Layer). kindOf q (contentType j)) (sym e) ∙ kind-found j r),
-    )
-  where
-    none-some : {j : Kind} → none ≡ some j → ⊥
-    none-some e = false≢true (ap isSome e)
-      where
-        isSome : Option Kind → Bool
-        isSome none = false
-        isSome (some x) = true
+    (subst (ValidPacket h) (sym (t .as-sent)) valid, (one, refl))

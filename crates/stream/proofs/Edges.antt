@@ -9,7 +9,7 @@ use Rattle.format.specs.Fault.{holdsZero, tooLong}
 use Rattle.format.specs.View.{seen, missed, place, placed, view, look}
 use Rattle.format.specs.Walk.{walkFrom}
 use Rattle.protocol.specs.Layer.{find, layerOf}
-use Rattle.protocol.specs.Kind.{LaserFeedList, kindOf, identifierFormat}
+use Rattle.protocol.specs.Kind.{LaserFeedList, LaserFeedFrame, bodyOf, kindOf, identifierFormat}
 use Rattle.protocol.specs.Step.{unknown, refusal, readBody, contentAt, stepAt, walk, looked}
 use Rattle.writing.specs.Call.{give, laserFeedList}
 use Rattle.writing.specs.Writer.{bodyDue, weigh, apply}
@@ -27,6 +27,15 @@ pub identifiers :
     × (view identifierFormat (5 ∷ 0 ∷ 0 ∷ []) 0 ≡ seen (5, (3, 0)) 3)
 unfolding view placed place size total decode decodeNumber decodeItems
 identifiers = (refl, refl)
+
+-- laser feeds: none; a name without an end behind one that ends; a frame of one point, and cut in the point
+pub laser-feeds :
+    (view (bodyOf LaserFeedList) (1 ∷ 0 ∷ 0 ∷ 0 ∷ 0 ∷ []) 0 ≡ seen (1, (5, 0)) 5)
+    × (view (bodyOf LaserFeedList) (1 ∷ 0 ∷ 0 ∷ 0 ∷ 2 ∷ 0x41 ∷ 0 ∷ 0 ∷ 0 ∷ 0x42 ∷ 0 ∷ 0 ∷ []) 0 ≡ missed 8)
+    × (view (bodyOf LaserFeedFrame) (1 ∷ 0 ∷ 0 ∷ 0 ∷ 2 ∷ 3 ∷ 0 ∷ 0 ∷ 0 ∷ 1 ∷ 0 ∷ 4 ∷ 5 ∷ 6 ∷ 7 ∷ 8 ∷ []) 0 ≡ seen (1, (2, (3, (11, 1)))) 16)
+    × (view (bodyOf LaserFeedFrame) (1 ∷ 0 ∷ 0 ∷ 0 ∷ 2 ∷ 3 ∷ 0 ∷ 0 ∷ 0 ∷ 1 ∷ 0 ∷ 4 ∷ 5 ∷ 6 ∷ 7 ∷ []) 0 ≡ missed 7)
+unfolding view placed place size total decode decodeNumber decodeItems decodeUcs2
+laser-feeds = (refl, refl, refl, refl)
 
 -- message_size 19, then 20 with an unknown layer, then 23 with SDMX
 pub sizes :

@@ -107,7 +107,7 @@ pub told : map (looked (stream packets)) (walk (stream packets) .0)
     ≡ record { offset = 0; size = 21; request = 0; content = reported.fragment 1 2 }
     ∷ record { offset = 21; size = 28; request = 7; content = reported.message UNam 45 none (3, 0x41 ∷ []) 1 } ∷ []
 unfolding reports
-told = let few : 28 ≤ limit = omega arith in walked packets (part-admissible, ((name-accepted, refl, few), tt)) .walked
+told = let few : 28 ≤ limit = omega arith in walked packets (part-admissible, ((name-accepted, few), tt)) .walked
 
 -- ---- a fixture list of one fixture with two identifiers and a NaN among its floats, found again by stepping
 

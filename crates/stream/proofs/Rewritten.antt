@@ -17,7 +17,7 @@ use Rattle.format.specs.Walk.{Step, stop, report}
 use Rattle.format.specs.Fault.{limit}
 use Rattle.protocol.specs.Layer.{Layer, PINF, SDMX, FPTC, FSEL, FINF, CAEX, cookie, headerLength, hintLength, layerOf, header, layerHeader, citp, cookieField}
 use Rattle.protocol.specs.Layer.{majorField, requestField, sizeField, countField, partField, layerField}
-use Rattle.protocol.specs.Kind.{Kind, layer, contentType, bodyOf, kindOf, isRead}
+use Rattle.protocol.specs.Kind.{Kind, layer, contentType, bodyOf, kindOf}
 use Rattle.protocol.specs.Step.{Content, message, unknown, fragment, refusal, Report, bodySeen, bodyAs, readBody, contentOf, readLayerHeader, readLayer}
 use Rattle.protocol.specs.Step.{contentAt, stepAt, looked}
 use Rattle.protocol.specs.Message.{Message, headerOf, headersOf, packetSize, packet, Sendable, raised}
@@ -60,7 +60,6 @@ pub record LayerRead (c : ℕ) (p : List ℕ) (l : Layer) (type hint : ℕ) : Ty
 -- a whole message: layer header, kind, body, and no byte more
 pub record Told (c : ℕ) (p : List ℕ) : Type 0 where
   pub kind : Kind
-  pub is-read : isRead kind ≡ true
   pub hint : ℕ
   pub layer-read : LayerRead c p (layer kind) (contentType kind) hint
   pub value : Value (bodyOf kind)
@@ -68,13 +67,12 @@ pub record Told (c : ℕ) (p : List ℕ) : Type 0 where
   pub reads-body : decode (bodyOf kind) (drop (headerLength (layer kind)) p) ≡ got value after-body
   pub none-added : length p - headerLength (layer kind) - (0 + size (bodyOf kind) value) ≡ 0
 
-told-body : (c : ℕ) (p : List ℕ) (at : ℕ) (k : Kind) (hint : ℕ) → isRead k ≡ true → LayerRead c p (layer k) (contentType k) hint
+told-body : (c : ℕ) (p : List ℕ) (at : ℕ) (k : Kind) (hint : ℕ) → LayerRead c p (layer k) (contentType k) hint
     → (x : Read (Value (bodyOf k))) → decode (bodyOf k) (drop (headerLength (layer k)) p) ≡ x
     → addedIn (contentOf (layer k) (at + headerLength (layer k)) (length p - headerLength (layer k)) (contentType k) hint (bodySeen k (placed (bodyOf k) 0 x))) ≡ some 0 → Told c p
 unfolding placed
-told-body c p at k hint r l (got v t) e a = record {
+told-body c p at k hint l (got v t) e a = record {
   kind = k;
-  is-read = r;
   hint = hint;
   layer-read = l;
   value = v;
@@ -82,7 +80,7 @@ told-body c p at k hint r l (got v t) e a = record {
   reads-body = e;
   none-added = ap (numberOr 0) a;
 }
-told-body c p at k hint r l (refused n) e a = absurd (no-some a)
+told-body c p at k hint l (refused n) e a = absurd (no-some a)
 
 told-kind : (c : ℕ) (p : List ℕ) (at : ℕ) (l : Layer) (type hint : ℕ) → LayerRead c p l type hint → (x : Option Kind) → kindOf l type ≡ x
     → addedIn (contentOf l (at + headerLength l) (length p - headerLength l) type hint (bodyAs x (drop (headerLength l) p))) ≡ some 0 → Told c p
@@ -97,7 +95,7 @@ told-kind c p at l type hint lr (some k) e a = on l type (found .layer-is) (foun
         → addedIn (contentOf l (at + headerLength l) (length p - headerLength l) type hint (bodyAs (some k) (drop (headerLength l) p))) ≡ some 0 → Told c p
     on l type q q′ = subst (λ (j : Layer). (LayerRead c p j type hint → addedIn (contentOf j (at + headerLength j) (length p - headerLength j) type hint (bodyAs (some k) (drop (headerLength j) p))) ≡ some 0 → Told c p)) q
         (subst (λ (n : ℕ). (LayerRead c p (layer k) n hint → addedIn (contentOf (layer k) (at + headerLength (layer k)) (length p - headerLength (layer k)) n hint (bodyAs (some k) (drop (headerLength (layer k)) p))) ≡ some 0 → Told c p)) q′
-        (λ lr a. told-body c p at k hint (found .is-read) lr (decode (bodyOf k) (drop (headerLength (layer k)) p)) refl a))
+        (λ lr a. told-body c p at k hint lr (decode (bodyOf k) (drop (headerLength (layer k)) p)) refl a))
 
 told-header : (c : ℕ) (p : List ℕ) (at : ℕ) (l : Layer) → cookie l ≡ c → headerLength l ≤ length p → (x : Read (Value (layerHeader l))) → decode (layerHeader l) (drop 20 p) ≡ x
     → addedIn (readLayerHeader l at p x) ≡ some 0 → Told c p
@@ -197,16 +195,16 @@ reportIn d (stop n o) = d
 reportIn d (report r k) = r
 
 -- a message's packet, accepted and reported
-reported-again : (s : List ℕ) (r : Report View) (m : Message) → Sendable m → s ≡ packet m → isRead (m .kind) ≡ true → length s ≤ limit
+reported-again : (s : List ℕ) (r : Report View) (m : Message) → Sendable m → s ≡ packet m → length s ≤ limit
     → stepAt s 0 ≡ report r (length s) → claims.Rewritten s r
-reported-again s r m ok is-packet is-read within st =
+reported-again s r m ok is-packet within st =
     let p = sent.message m s [] in
     let a : Accepted s m = subst (λ (x : List ℕ). Accepted x m) (sym is-packet) (accepts m ok) in
     let raised-is : raised s [] ≡ s = ap (λ (x : List ℕ). raised x []) is-packet ∙ raised-none m ∙ sym is-packet in
     let fits : length s + 0 ≤ limit = omega arith in
     let here : drop 0 s ≡ raised s [] ++ [] = sym (append-nil (raised s []) ∙ raised-is) in
-    let same-report : r ≡ expectedView 0 p = ap (reportIn r) (sym st ∙ finds s 0 p [] (a, is-read, fits) here) in
-    record { message-of = m; accepted = a; same = ap (looked s) same-report ∙ looks s 0 p [] (a, is-read, fits) here }
+    let same-report : r ≡ expectedView 0 p = ap (reportIn r) (sym st ∙ finds s 0 p [] (a, fits) here) in
+    record { message-of = m; accepted = a; same = ap (looked s) same-report ∙ looks s 0 p [] (a, fits) here }
 
 pub writes-packet : claims.WritesPacket
 writes-packet s h rest r k start hint v hs e mn ct pt st con =
@@ -221,4 +219,4 @@ writes-packet s h rest r k start hint v hs e mn ct pt st con =
     let added : addedIn (contentAt 0 h s) ≡ some 0 = ap (λ (x : List ℕ). addedIn (contentAt 0 h x)) (sym whole) ∙ ap addedIn (sym holds ∙ con) in
     let t = told-content 0 h s added in
     let b = rebuilt s h rest t hs e (base .cookie-is) (base .major-is) mn size-is ct pt within in
-    reported-again s r (messageOf h t) (b .0) (b .1) (t .is-read) within st
+    reported-again s r (messageOf h t) (b .0) (b .1) within st

@@ -62,9 +62,9 @@ is-sent m accepted added a l =
 pub finds : (s : List ℕ) (at : ℕ) (p : Packet) (rest : List ℕ) → Admissible p → drop at s ≡ bytes p ++ rest → stepAt s at ≡ report (expectedView at p) (at + length (bytes p))
 unfolding stepAt
 finds s at (message m accepted added) rest g e =
-    let t = is-sent m accepted added (g .0) (g .2) in
+    let t = is-sent m accepted added (g .0) (g .1) in
     ap (stepRest at) (e ∙ ap (λ (x : List ℕ). x ++ rest) (t .as-sent)) ∙ step-message at m added rest (t .ok) (t .within)
-    ∙ rw (message-content at m added (t .ok) (g .1), t .as-sent, t .total-is)
+    ∙ rw (message-content at m added (t .ok), t .as-sent, t .total-is)
 finds s at (unknownLayer h p) rest g e =
     ap (stepRest at) e ∙ step-valid at p rest h (g .0) ∙ rw (layer-content at h p (g .1) (g .2))
 finds s at (unknownKind h l type p) rest g e =
@@ -76,7 +76,7 @@ finds s at (fragment h p) rest g e =
 full : (p : Packet) → Admissible p → 0 < length (bytes p)
 unfolding packetSize
 full (message m accepted added) g =
-    let t = is-sent m accepted added (g .0) (g .2) in
+    let t = is-sent m accepted added (g .0) (g .1) in
     rw (t .as-sent) (omega (arith, length-sent m added, header-length (layer (m .kind))))
 full (unknownLayer h s) g = omega (arith, header-within h s (drop 20 s) (g .0 .headed))
 full (unknownKind h l type s) g = omega (arith, header-within h s (drop 20 s) (g .0 .headed))
@@ -95,7 +95,7 @@ walk-views ps hs = rw append-nil at (walk-packets stepAt bytes expectedView Admi
 pub looks : (s : List ℕ) (at : ℕ) (p : Packet) (rest : List ℕ) → Admissible p → drop at s ≡ bytes p ++ rest → looked s (expectedView at p) ≡ expected at p
 unfolding looked
 looks s at (message m accepted added) rest g e =
-    let t = is-sent m accepted added (g .0) (g .2) in
+    let t = is-sent m accepted added (g .0) (g .1) in
     let v = message-looked s at m added rest (t .ok) (e ∙ ap (λ (x : List ℕ). x ++ rest) (t .as-sent)) in
     rw (t .size-is, v)
 looks s at (unknownLayer h p) rest g e = refl

@@ -1,7 +1,6 @@
 -- The claims, from top to bottom: the theorems of the three demands, as statements. Each is proved under its name in the file of proofs/ named beside it.
 use Prim.Native.Nat.{ℕ, _≤_}
 use mathlib.Core.Path.{_≡_}
-use mathlib.Core.Bool.{true}
 use mathlib.Core.Logic.{_⊎_}
 use mathlib.Core.List.{List, [], _∷_, _++_, map}
 use mathlib.Core.Option.{Option, some}
@@ -11,7 +10,7 @@ use Rattle.format.specs.View.{View, seen, view, place, look}
 use Rattle.format.specs.Copy.{copyCString, copyUcs2, copyNumbers, Copies}
 use Rattle.format.specs.Walk.{stop, report, reports, keep, Ended}
 use Rattle.protocol.specs.Layer.{header, minorField, countField, partField}
-use Rattle.protocol.specs.Kind.{Kind, FixtureList, bodyOf, sameKind, isRead}
+use Rattle.protocol.specs.Kind.{Kind, FixtureList, bodyOf, sameKind}
 use Rattle.protocol.specs.Step as reported
 use Rattle.protocol.specs.Step.{Report, stepAt, walk, looked}
 use Rattle.protocol.specs.Message.{Message, Sendable, packet}
@@ -67,7 +66,7 @@ ReadsBody = (k : Kind) (v : Value (bodyOf k)) (added : List ℕ) → Valid (body
 
 -- reads-packet (Bodies): a packet that the writer accepted is reported as its message, with every value and no added bytes
 abbrev pub ReadsPacket : Type 0
-ReadsPacket = (s : List ℕ) (m : Message) → Accepted s m → isRead (m .kind) ≡ true
+ReadsPacket = (s : List ℕ) (m : Message) → Accepted s m
     → (map (looked s) (walk s .0) ≡ expected 0 (message m s []) ∷ []) × (walk s .1 ≡ some (0, length s))
 
 -- reads-written

@@ -1,14 +1,12 @@
 -- The packets of a stream, the report due for each, and packets struck from a list.
 use Prim.Native.Nat.{ℕ, _+_, _≤_}
-use mathlib.Core.Path.{_≡_}
-use mathlib.Core.Bool.{true}
 use mathlib.Core.List.{List, [], _∷_}
 use mathlib.Core.Option.{Option, none, some}
 use lib.ListN.{length}
 use Rattle.format.specs.Format.{Format, Value, concatMap}
 use Rattle.format.specs.Fault.{limit}
 use Rattle.protocol.specs.Layer.{Layer, cookie, headerLength, hinted, header, requestField, countField, partField, layerField}
-use Rattle.protocol.specs.Kind.{layer, isRead}
+use Rattle.protocol.specs.Kind.{layer}
 use Rattle.protocol.specs.Step as reported
 use Rattle.protocol.specs.Step.{Content, Report}
 use Rattle.protocol.specs.Message.{Message, raised}
@@ -29,9 +27,9 @@ bytes (unknownLayer h s) = s
 bytes (unknownKind h l type s) = s
 bytes (fragment h s) = s
 
--- what a list of demand 3 holds: messages of the kinds that are read, as the writer accepted them, and unknown packets and fragments, each valid by its base header
+-- what a list of demand 3 holds: messages as the writer accepted them, and unknown packets and fragments, each valid by its base header
 abbrev pub Admissible : Packet → Type 0
-Admissible (message m accepted added) = Accepted accepted m × (isRead (m .kind) ≡ true) × (length accepted + length added ≤ limit)
+Admissible (message m accepted added) = Accepted accepted m × (length accepted + length added ≤ limit)
 Admissible (unknownLayer h s) = ValidPacket h s × Whole h × NoLayer (layerField h)
 Admissible (unknownKind h l type s) = ValidPacket h s × Whole h × HasLayer l type h s × NoKind l type
 Admissible (fragment h s) = ValidPacket h s × (Whole h → ⊥)

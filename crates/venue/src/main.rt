@@ -1,5 +1,7 @@
-// Writes the stream of a small rig through the packet writer to standard output: 36 lamps on two trusses and the floor, in two universes.
+// Writes the stream of a small rig through the packet writer to standard output: 36 lamps on two trusses and the floor, in two universes,
+// and the two feeds of a laser controller beside them.
 use caex::FixtureListMessageType;
+use caex::LaserPoint;
 use fixture::FixtureData;
 use fixture::FloatBits;
 use fixture::IdentifierType;
@@ -407,6 +409,50 @@ fn send_levels(out: &mut [u8]) {
     send_chbk(out, 1, 0, &[0; 376]);
 }
 
+// ---- the laser controller
+
+// In its list and in its frames.
+const SOURCE_KEY: u32 = 0x4C415331;
+
+fn send_laser_feed_list(out: &mut [u8]) {
+    let w = opened(out, Kind::LaserFeedList, 0);
+    let head = w.laser_feed_list_head(out, SOURCE_KEY, 2);
+    // Wall
+    let wall = head.writer.feed_name(out, &[87, 97, 108, 108]);
+    // Haze
+    let given = wall.writer.feed_name(out, &[72, 97, 122, 101]);
+    send(out, given);
+}
+
+// In green; x and y have 12 bits.
+fn point(x: u16, y: u16) -> LaserPoint {
+    LaserPoint {
+        x_low_byte: (x % 256) as u8,
+        y_low_byte: (y % 256) as u8,
+        xy_high_nibbles: (x / 256 % 16 + 16 * (y / 256 % 16)) as u8,
+        color: 0x07E0,
+    }
+}
+
+fn write_points(out: &mut [u8], w: Writer, a: LaserPoint, b: LaserPoint) -> Written {
+    let first = w.laser_point(out, a);
+    first.writer.laser_point(out, b)
+}
+
+// From its left corner round to it again.
+fn write_triangle(out: &mut [u8], w: Writer) -> Written {
+    let base = write_points(out, w, point(1000, 1000), point(3000, 1000));
+    write_points(out, base.writer, point(2000, 3000), point(1000, 1000))
+}
+
+// The first frame on the wall.
+fn send_laser_feed_frame(out: &mut [u8]) {
+    let w = opened(out, Kind::LaserFeedFrame, 0);
+    let head = w.laser_feed_frame_head(out, SOURCE_KEY, 0, 0, 4);
+    let given = write_triangle(out, head.writer);
+    send(out, given);
+}
+
 fn main() {
     let mut out = io::large_buffer();
     send_pnam(&mut out);
@@ -416,4 +462,6 @@ fn main() {
     send_patch(&mut out);
     send_sele(&mut out);
     send_levels(&mut out);
+    send_laser_feed_list(&mut out);
+    send_laser_feed_frame(&mut out);
 }

@@ -1,4 +1,4 @@
-use mathlib.Core.Path.{refl, sym}
+use mathlib.Core.Path.{sym}
 use borrow.Author.Tests.{ne-eqb}
 use borrow.Author.Needs.{needs}
 use Rattle.protocol.specs.Layer.{FPTC, find}
@@ -28,10 +28,16 @@ read-from-bytes-spec =
     (λ c κs. tt)
     (λ c. search needs)
     (λ c. search needs)
-    (λ c. arm kind.Ptch refl _ (c .before .before .before .before .match .keys1) (met ptchSays (c .before .before .before .read-from-bytes .ensures) (c .before .m .given .1)))
-    (λ c. arm kind.Ptch refl _ (c .before .before .before .before .match .keys1) (met ptchSays (c .before .before .before .read-from-bytes .ensures) (c .before .n .given .1)))
-    (λ c. arm kind.UPtc refl _ (c .before .before .before .before .match .keys2) (met uptcSays (c .before .before .before .read-from-bytes2 .ensures) (c .before .m2 .given .1)))
-    (λ c. arm kind.UPtc refl _ (c .before .before .before .before .match .keys2) (met uptcSays (c .before .before .before .read-from-bytes2 .ensures) (c .before .n2 .given .1)))
-    (λ c. arm kind.SPtc refl _ (c .before .before .before .before .match .keys3) (met sptcSays (c .before .before .before .read-from-bytes3 .ensures) (c .before .m3 .given .1)))
-    (λ c. arm kind.SPtc refl _ (c .before .before .before .before .match .keys3) (met sptcSays (c .before .before .before .read-from-bytes3 .ensures) (c .before .n3 .given .1)))
+    (λ c. arm kind.Ptch _ (c .before .before .before .before .match .keys1)
+    (met ptchSays (c .before .before .before .read-from-bytes .ensures) (c .before .m .given .1)))
+    (λ c. arm kind.Ptch _ (c .before .before .before .before .match .keys1)
+    (met ptchSays (c .before .before .before .read-from-bytes .ensures) (c .before .n .given .1)))
+    (λ c. arm kind.UPtc _ (c .before .before .before .before .match .keys2)
+    (met uptcSays (c .before .before .before .read-from-bytes2 .ensures) (c .before .m2 .given .1)))
+    (λ c. arm kind.UPtc _ (c .before .before .before .before .match .keys2)
+    (met uptcSays (c .before .before .before .read-from-bytes2 .ensures) (c .before .n2 .given .1)))
+    (λ c. arm kind.SPtc _ (c .before .before .before .before .match .keys3)
+    (met sptcSays (c .before .before .before .read-from-bytes3 .ensures) (c .before .m3 .given .1)))
+    (λ c. arm kind.SPtc _ (c .before .before .before .before .match .keys3)
+    (met sptcSays (c .before .before .before .read-from-bytes3 .ensures) (c .before .n3 .given .1)))
     returns-7)

@@ -1,4 +1,4 @@
-use mathlib.Core.Path.{refl, sym}
+use mathlib.Core.Path.{sym}
 use borrow.Author.Tests.{ne-eqb}
 use borrow.Author.Needs.{needs}
 use Rattle.protocol.specs.Layer.{FSEL, find}
@@ -25,8 +25,12 @@ read-from-bytes-spec =
     (λ c κs. tt)
     (λ c. search needs)
     (λ c. search needs)
-    (λ c. arm kind.Sele refl _ (c .before .before .before .before .match .keys1) (met seleSays (c .before .before .before .read-from-bytes .ensures) (c .before .m .given .1)))
-    (λ c. arm kind.Sele refl _ (c .before .before .before .before .match .keys1) (met seleSays (c .before .before .before .read-from-bytes .ensures) (c .before .n .given .1)))
-    (λ c. arm kind.DeSe refl _ (c .before .before .before .before .match .keys2) (met deseSays (c .before .before .before .read-from-bytes2 .ensures) (c .before .m2 .given .1)))
-    (λ c. arm kind.DeSe refl _ (c .before .before .before .before .match .keys2) (met deseSays (c .before .before .before .read-from-bytes2 .ensures) (c .before .n2 .given .1)))
+    (λ c. arm kind.Sele _ (c .before .before .before .before .match .keys1)
+    (met seleSays (c .before .before .before .read-from-bytes .ensures) (c .before .m .given .1)))
+    (λ c. arm kind.Sele _ (c .before .before .before .before .match .keys1)
+    (met seleSays (c .before .before .before .read-from-bytes .ensures) (c .before .n .given .1)))
+    (λ c. arm kind.DeSe _ (c .before .before .before .before .match .keys2)
+    (met deseSays (c .before .before .before .read-from-bytes2 .ensures) (c .before .m2 .given .1)))
+    (λ c. arm kind.DeSe _ (c .before .before .before .before .match .keys2)
+    (met deseSays (c .before .before .before .read-from-bytes2 .ensures) (c .before .n2 .given .1)))
     returns-5)

@@ -1,0 +1,25 @@
+use Rattle.caex.proofs.Reading.{feed-needs as needs}
+use Rattle.caex.proofs.LaserFeedFrame.read_from_bytes.Statement.{statement}
+use Rattle.caex.proofs.LaserFeedFrame.read_from_bytes.Tie as tie
+
+pub read-from-bytes-spec : {M : Type 1} → statement M
+read-from-bytes-spec =
+    tie.close
+    (tie.spec
+    (λ c κs. tt)
+    (λ c. search needs)
+    (λ c. search needs)
+    (λ c. search needs)
+    (λ c κs. tt)
+    (λ c. search needs)
+    (λ c. search needs)
+    (λ c. search needs)
+    (λ c κs. tt)
+    (λ c. search needs)
+    (λ c. search needs)
+    (λ c. search needs)
+    (λ c κs. tt)
+    (λ c. search needs)
+    (λ c. search needs)
+    (λ c. search needs)
+    (λ c. search needs))
