@@ -255,6 +255,43 @@ static void counts(void) {
     CHECK(w.turn == CITP_TURN_PARTS && w.items == 65534 && w.identifiers == 255 && w.at == 41);
 }
 
+/* ---- the patch book, of two numbers */
+
+static uint64_t entries[] = {0, 0x0102030405060708};
+
+static citp_booked patched(size_t count, uint16_t identifier, uint16_t channel, uint16_t channel_count) {
+    uint8_t ptch[32];
+    citp_put p = citp_ptch_write(ptch, sizeof ptch, 0, identifier, 3, 0, channel, channel_count, TEXT("m"), TEXT("n"));
+    CHECK(p.number == 0 && citp_book_patch(count, entries, 2, ptch, 7).number == 7);
+    return citp_book_patch(count, entries, 2, ptch, p.at);
+}
+
+static citp_booked unpatched(size_t count, uint16_t identifier) {
+    uint8_t uptc[4];
+    CHECK(citp_uptc_write(uptc, sizeof uptc, 0, &identifier, 1).number == 0 && citp_book_unpatch(count, entries, 2, uptc, 3).number == 7);
+    return citp_book_unpatch(count, entries, 2, uptc, sizeof uptc);
+}
+
+static void is_booked(citp_booked r, uint8_t number, size_t count) { CHECK(r.number == number && r.count == count); }
+
+static void book(void) {
+    is_booked(patched(0, 0x0102, 0x0104, 5), 0, 1);
+    citp_entry e = citp_book_entry(1, entries, 2, 0);
+    CHECK(e.given == 1 && e.fixture_identifier == 0x0102 && e.universe == 3 && e.channel == 0x0104 && e.channel_count == 5);
+    CHECK(citp_book_entry(1, entries, 2, 1).given == 0 && entries[1] == 0x0102030405060708);
+    is_booked(patched(1, 9, 511, 2), 16, 1);
+    is_booked(patched(1, 9, 0x0108, 1), 17, 1);
+    is_booked(patched(1, 9, 0, 2), 0, 2);
+    is_booked(patched(2, 10, 2, 1), 18, 2);
+    CHECK(citp_book_entries(2, entries, 2) == 2 && citp_book_entries(99, entries, 2) == 2 && citp_book_entries(1, NULL, 0) == 0);
+    CHECK(citp_book_taken(2, entries, 2, 3) == 7 && citp_book_first_free(2, entries, 2, 3) == 2);
+    CHECK(citp_book_taken(2, entries, 2, 4) == 0 && citp_book_first_free(2, entries, 2, 4) == 0);
+    is_booked(unpatched(2, 8), 0, 2);
+    is_booked(unpatched(2, 0x0102), 0, 1);
+    is_booked(patched(1, 9, 0, 512), 0, 1);
+    CHECK(citp_book_taken(1, entries, 2, 3) == 512 && citp_book_first_free(1, entries, 2, 3) == 512);
+}
+
 int main(void) {
     w = citp_writer_new();
     write_caex(), write_sdmx(), write_others(), write_feeds();
@@ -269,6 +306,7 @@ int main(void) {
     CHECK(r.number == 14 && r.writer.turn == 9 && r.writer.kind == 99);
     CHECK(r.writer.items == 0x0102 && r.writer.identifiers == 3 && r.writer.at == 0x04050607);
     counts();
-    printf("20 kinds written, walked and read back\n");
+    book();
+    printf("20 kinds written, walked and read back; a patch book kept\n");
     return 0;
 }

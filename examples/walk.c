@@ -4,6 +4,7 @@
 #include <stdlib.h>
 
 #include "citp.h"
+#include "common.h"
 
 static const char *const kinds[] = {CITP_KIND_NAMES};
 
@@ -31,36 +32,6 @@ static void print_packet(citp_step s) {
     printf("\n");
 }
 
-/* What errno says of the file; the program ends. */
-static void fail(const char *path) {
-    perror(path);
-    exit(2);
-}
-
-/* The whole file, in memory that the caller frees. */
-static uint8_t *read_file(const char *path, size_t *len) {
-    FILE *file = fopen(path, "rb");
-    if (file == NULL) {
-        fail(path);
-    }
-    uint8_t *bytes = NULL;
-    size_t room = 0;
-    *len = 0;
-    while (*len == room) {
-        room = room == 0 ? 65536 : 2 * room;
-        bytes = realloc(bytes, room);
-        if (bytes == NULL) {
-            fail(path);
-        }
-        *len += fread(bytes + *len, 1, room - *len, file);
-    }
-    if (ferror(file)) {
-        fail(path);
-    }
-    fclose(file);
-    return bytes;
-}
-
 int main(int argc, char **argv) {
     if (argc != 2) {
         fprintf(stderr, "usage: walk FILE\n");
@@ -75,9 +46,5 @@ int main(int argc, char **argv) {
     }
     printf("%zu end %u\n", s.offset, (unsigned)s.number);
     free(stream);
-    if (fflush(stdout) != 0 || ferror(stdout)) {
-        fprintf(stderr, "walk: standard output cannot be written\n");
-        return 3;
-    }
-    return 0;
+    return written("walk");
 }

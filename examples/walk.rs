@@ -5,6 +5,8 @@ use std::process::ExitCode;
 
 use citp::Step;
 
+mod common;
+
 fn what(s: &Step) -> String {
     match s.report {
         citp::MESSAGE if s.added == 0 => citp::KIND_NAMES[s.kind as usize].to_string(),
@@ -22,26 +24,9 @@ fn walk(stream: &[u8], out: &mut impl Write) -> std::io::Result<()> {
         writeln!(out, "{} {} {}", s.offset, s.size, what(&s))?;
         s = citp::walk_step(stream, s.next);
     }
-    writeln!(out, "{} end {}", s.offset, s.number)?;
-    out.flush()
+    writeln!(out, "{} end {}", s.offset, s.number)
 }
 
 fn main() -> ExitCode {
-    let args: Vec<_> = std::env::args_os().collect();
-    let [_, path] = &args[..] else {
-        eprintln!("usage: walk FILE");
-        return ExitCode::from(2);
-    };
-    let stream = match std::fs::read(path) {
-        Ok(stream) => stream,
-        Err(error) => {
-            eprintln!("{}: {error}", path.display());
-            return ExitCode::from(2);
-        }
-    };
-    if let Err(error) = walk(&stream, &mut std::io::stdout().lock()) {
-        eprintln!("walk: standard output cannot be written: {error}");
-        return ExitCode::from(3);
-    }
-    ExitCode::SUCCESS
+    common::run("walk", |stream, out| walk(stream, out))
 }

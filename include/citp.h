@@ -1,14 +1,14 @@
-/* CITP packets: reading, walking a stream, writing. For the archive libcitp.a (x86-64 Linux).
+/* CITP packets: reading, walking a stream, writing; the patch book. For the archive libcitp.a (x86-64 Linux).
  *
  * Every function ends, checks its own input and keeps no state. What each answers is proved equal to a definition, for
  * every input that C can pass.
  *
- * A slice is a pointer and a length in elements (bytes, or 16- or 32-bit numbers). Its elements stand in memory that
- * nothing else writes during the call, aligned as C asks; `out` shares no byte with another slice. With length 0 the
- * pointer is not used and may be null.
+ * A slice is a pointer and a length in elements (bytes, 16- or 32-bit numbers, 64-bit words). Its elements stand in
+ * memory that nothing else writes during the call, aligned as C asks; `out` and `entries` share no byte with another
+ * slice. With length 0 the pointer is not used and may be null.
  *
- * `number` is 0, or the refusal. A refused answer's other fields are 0; its place or writer state, where it has one, is
- * the one that was given; of a refused packet the walk still tells offset, size, request_index and next:
+ * `number` is 0, or the refusal. A refused answer's other fields are 0; its place, writer state or count, where it has
+ * one, is the one that was given; of a refused packet the walk still tells offset, size, request_index and next:
  *    1 to 5   the walk ends: 1 to 19 bytes left; no "CITP"; version_major not 1; message_size below 20 or above
  *             16,777,216; message_size above the bytes left
  *    6        known layer, packet shorter than its headers
@@ -21,7 +21,10 @@
  *    13       the lent output is shorter than the place after the call, or than the string
  *    14       call out of turn, a body of another kind than opened, a state or kind that there is none of
  *    15       the packet would pass 16,777,216 bytes
- * A refused call leaves `out` as it was.
+ *    16       a channel count to be patched is outside 1 to 512, or the span passes channel 511
+ *    17       a channel to be patched is held by another fixture
+ *    18       a fixture to be patched is new, and as many are held as there is room for
+ * A refused call leaves `out` and `entries` as they were.
  *
  * A string or a block is a range of the body that it was read from: `start` and `len`, counted in bytes, of a Ucs2
  * string `len` in 16-bit units. A list is a cursor: `at`, where its next item stands in the body, and `left`, the items
@@ -566,6 +569,38 @@ citp_written citp_writer_laser_feed_frame_head(citp_writer w, uint8_t *out, size
                                                uint8_t feed_index, uint32_t frame_sequence, size_t point_count);
 citp_written citp_writer_laser_point(citp_writer w, uint8_t *out, size_t out_len, uint8_t x_low_byte,
                                      uint8_t y_low_byte, uint8_t xy_high_nibbles, uint16_t color);
+
+/* ---- the patch book: at most 256 fixtures, each with its channels in a universe, fed by the bodies of Ptch and UPtc.
+ * It is a count, 0 at first, and `entries`, words that the caller lends, an entry in each; every call gets both as the
+ * call before left them. What the words hold at first does not matter. 256 words or more are due for 256 fixtures,
+ * fewer have room for as many as they are. Any values may be given; as many entries are held as the count says, at most
+ * 256 and at most as there are words. The order of the entries is left open to change; now it is by universe, then by
+ * channel. */
+
+typedef struct {
+    uint8_t number; /* 0; of a body that does not read 7 or 8; of a patch else 16, then 17, then 18 */
+    size_t count;   /* for the next call */
+} citp_booked;
+
+typedef struct {
+    uint8_t given; /* 1; 0 past the last entry, and then so are the other fields */
+    uint16_t fixture_identifier;
+    uint16_t universe;
+    uint16_t channel; /* the first, from 0 */
+    uint16_t channel_count;
+} citp_entry;
+
+/* The body of a Ptch: an entry for its fixture, in place of the one that it has. */
+citp_booked citp_book_patch(size_t count, uint64_t *entries, size_t entries_len, const uint8_t *body, size_t body_len);
+/* The body of a UPtc: the entries of the listed identifiers are dropped. */
+citp_booked citp_book_unpatch(size_t count, uint64_t *entries, size_t entries_len, const uint8_t *body,
+                              size_t body_len);
+size_t citp_book_entries(size_t count, const uint64_t *entries, size_t entries_len); /* how many it holds */
+citp_entry citp_book_entry(size_t count, const uint64_t *entries, size_t entries_len, size_t k); /* the k-th, from 0 */
+/* How many of a universe's 512 channels are taken. */
+uint16_t citp_book_taken(size_t count, const uint64_t *entries, size_t entries_len, uint16_t universe);
+/* A universe's first free channel, 0 to 511; 512 where none is free. */
+uint16_t citp_book_first_free(size_t count, const uint64_t *entries, size_t entries_len, uint16_t universe);
 
 #ifdef __cplusplus
 }

@@ -682,3 +682,46 @@ functions! {
         w: Writer, out: &mut [u8], x_low_byte: u8, y_low_byte: u8, xy_high_nibbles: u8, color: u16
     ) -> Written;
 }
+
+// ---- the patch book: at most 256 fixtures, each with its channels in a universe, fed by the bodies of Ptch and UPtc.
+// It is a count, 0 at first, and `entries`, words that the caller lends, an entry in each; every call gets both as the
+// call before left them. What the words hold at first does not matter. 256 words or more are due for 256 fixtures,
+// fewer have room for as many as they are. Any values may be given; as many entries are held as the count says, at most
+// 256 and at most as there are words. The order of the entries is left open to change; now it is by universe, then by
+// channel.
+
+#[repr(C)]
+#[derive(Clone, Copy, Debug, Default, PartialEq, Eq)]
+pub struct Booked {
+    /// 0; of a body that does not read 7 or 8; of a patch else 16, then 17, then 18
+    pub number: u8,
+    /// for the next call
+    pub count: usize,
+}
+
+#[repr(C)]
+#[derive(Clone, Copy, Debug, Default, PartialEq, Eq)]
+pub struct Entry {
+    /// 1; 0 past the last entry, and then so are the other fields
+    pub given: u8,
+    pub fixture_identifier: u16,
+    pub universe: u16,
+    /// the first, from 0
+    pub channel: u16,
+    pub channel_count: u16,
+}
+
+functions! {
+    /// The body of a Ptch: an entry for its fixture, in place of the one that it has.
+    book_patch(count: usize, entries: &mut [u64], body: &[u8]) -> Booked;
+    /// The body of a UPtc: the entries of the listed identifiers are dropped.
+    book_unpatch(count: usize, entries: &mut [u64], body: &[u8]) -> Booked;
+    /// how many it holds
+    book_entries(count: usize, entries: &[u64]) -> usize;
+    /// the k-th, from 0
+    book_entry(count: usize, entries: &[u64], k: usize) -> Entry;
+    /// How many of a universe's 512 channels are taken.
+    book_taken(count: usize, entries: &[u64], universe: u16) -> u16;
+    /// A universe's first free channel, 0 to 511; 512 where none is free.
+    book_first_free(count: usize, entries: &[u64], universe: u16) -> u16;
+}

@@ -8,7 +8,8 @@ import subprocess
 import sys
 
 sys.dont_write_bytecode = True
-from reference import listing
+sys.path.insert(0, str(pathlib.Path(__file__).resolve().parent.parent))
+from listing.reference import listing
 
 
 def packet(layer, type_, body=b'', hint=7, request_index=0, count=1, part=0, minor=0, size=None):
@@ -132,9 +133,9 @@ def long_streams():
     yield (ALL * 42)[:65536]
 
 
-def damaged(rng):
-    """A few packets, with bytes changed, cut out or put in; or bytes that look like one."""
-    s = bytearray(b''.join(rng.choice(MESSAGES + OTHERS) for _ in range(rng.randrange(1, 6))))
+def damaged(rng, packets):
+    """Packets with bytes changed, cut out or put in; or bytes that look like one."""
+    s = bytearray(b''.join(packets))
     for _ in range(rng.choice((0, 1, 1, 2, 8))):
         i = rng.randrange(len(s))
         change = rng.randrange(4)
@@ -161,16 +162,20 @@ def write():
     (program / 'stdout').write_text(listing(STREAMS['kinds']), encoding='ascii')
 
 
-def compare(program, n):
-    rng = random.Random(6)
-    count = 0
-    for stream in [*long_streams(), *(damaged(rng) for _ in range(n))]:
-        got = subprocess.run([program], input=stream, stdout=subprocess.PIPE, check=True).stdout
-        if got != listing(stream[:65536]).encode('ascii'):
+def compare_all(program, streams, reference):
+    """Lists streams by a program and by a reference; the first one that differs is written to differs.in."""
+    for stream in streams:
+        got = subprocess.run([program], input=stream, stdout=subprocess.PIPE, stderr=subprocess.DEVNULL, check=True).stdout
+        if got != reference(stream).encode('ascii'):
             pathlib.Path('differs.in').write_bytes(stream)
             sys.exit('a listing differs: differs.in')
-        count += 1
-    print('%d long, random and damaged streams: alike' % count)
+    print('%d long, random and damaged streams: alike' % len(streams))
+
+
+def compare(program, n):
+    rng = random.Random(6)
+    some = [damaged(rng, [rng.choice(MESSAGES + OTHERS) for _ in range(rng.randrange(1, 6))]) for _ in range(n)]
+    compare_all(program, [*long_streams(), *some], lambda stream: listing(stream[:65536]))
 
 
 if __name__ == '__main__':

@@ -1,0 +1,9 @@
+pub mod Digits
+pub mod Cases
+pub mod Fields
+pub mod Lists
+pub mod Loops
+pub mod Entries
+pub mod Theorem
+pub mod Numbers
+pub mod Example

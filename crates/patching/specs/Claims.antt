@@ -1,0 +1,100 @@
+-- What is promised of the patch book over every list of messages. Each claim is proved under its name in the file of proofs/ beside it.
+use Prim.Native.Nat.{ℕ, zero, suc, _+_, _<_, _≤_}
+use mathlib.Core.Path.{_≡_}
+use mathlib.Core.Bool.{true, false}
+use mathlib.Core.Logic.{_⊎_}
+use mathlib.Core.List.{List, [], _∷_, map}
+use mathlib.Core.Option.{Option, none, some}
+use lib.ListN.{length}
+use lib.Dec.{eqb}
+use Rattle.format.specs.Format.{pick, All, Bytes}
+use Rattle.patching.specs.Entry.{Entry, universe, channelCount, Fields, fields, Key, key, sameKey, same, holds}
+use Rattle.patching.specs.Book.{Message, ptch, uptc, Change, patch, unpatch, unread, change, drops, misfits}
+use Rattle.patching.specs.Book.{held, answer, takenAt, takenIn, freeIn}
+
+-- x is one of the list
+pub data In {A : Type 0} (x : A) : List A → Type 0 where
+  here : {l : List A} → In x (x ∷ l)
+  there : {y : A} {l : List A} → In x l → In x (y ∷ l)
+
+-- R holds of each element and each behind it
+abbrev pub Pairs : {A : Type 0} → (A → A → Type 0) → List A → Type 0
+Pairs R [] = Unit {0}
+Pairs R (x ∷ l) = All (R x) l × Pairs R l
+
+-- ---- every list of messages
+
+-- a message's body is a slice of bytes
+abbrev pub OfBytes : Message → Type 0
+OfBytes (ptch s) = Bytes s
+OfBytes (uptc s) = Bytes s
+
+-- what a change with its number leaves a fixture with: an accepted patch its fields, an unpatch that drops it nothing
+abbrev pub after : Key → Change → ℕ → Option Fields → Option Fields
+after k (patch f) zero o = pick (sameKey (key f) k) (some f) o
+after k (patch f) (suc n) o = o
+after k (unpatch ids) n o = pick (drops ids k) none o
+after k (unread m) n o = o
+
+-- the count and the words lent after a list of calls, each on what the call before left
+unfoldable pub feed : List Message → ℕ → List Entry → ℕ × List Entry
+feed [] count ws = (count, ws)
+feed (m ∷ ms) count ws = feed ms (answer (change m) count ws .1) (answer (change m) count ws .2)
+
+-- the entries held after them
+abbrev pub heldAfter : List Message → ℕ → List Entry → List Entry
+heldAfter ms count ws = held (feed ms count ws .0) (feed ms count ws .1)
+
+-- what they leave a fixture with: the fields of its last accepted patch that no later unpatch dropped; o is what it had before
+unfoldable pub standing : Key → List Message → ℕ → List Entry → Option Fields → Option Fields
+standing k [] count ws o = o
+standing k (m ∷ ms) count ws o =
+    standing k ms (answer (change m) count ws .1) (answer (change m) count ws .2) (after k (change m) (answer (change m) count ws .0) o)
+
+-- no channel is held by both
+abbrev pub Apart : Entry → Entry → Type 0
+Apart x y = (u c : ℕ) → holds u c x ≡ true → holds u c y ≡ true → ⊥
+
+-- the sum of the channel counts in a universe
+unfoldable pub total : ℕ → List Entry → ℕ
+total u [] = 0
+total u (e ∷ l) = pick (eqb (universe e) u) (channelCount e) 0 + total u l
+
+-- of the entries l that a book holds after a list of messages, from an empty one; `last` is what they leave each fixture with
+pub record Promises (last : Key → Option Fields) (l : List Entry) : Type 0 where
+  -- exactly the four fields of each fixture's last accepted Ptch that no later UPtc dropped
+  pub exactly : (f : Fields) → (In f (map fields l) → last (key f) ≡ some f) × (last (key f) ≡ some f → In f (map fields l))
+  pub at-most : length l ≤ 256
+  -- each fixture once, and each with a span that fits its universe
+  pub once : Pairs (λ x y. same x y ≡ false) l
+  pub fit : All (λ e. misfits e ≡ false) l
+  -- no two entries share a channel
+  pub apart : Pairs Apart l
+  -- the taken count is the sum of the entries' channel counts in that universe
+  pub taken : (u : ℕ) → takenIn u l ≡ total u l
+  -- the first free channel is free, and those below it are taken; where none is free, all are taken
+  pub free : (u c : ℕ) → freeIn u l ≡ some c → (c < 512) × (takenAt l u c ≡ false) × ((d : ℕ) → d < c → takenAt l u d ≡ true)
+  pub none-free : (u : ℕ) → freeIn u l ≡ none → (d : ℕ) → d < 512 → takenAt l u d ≡ true
+
+-- patch-book (Theorem): over every list of bodies, on whatever words are lent
+abbrev pub PatchBook : Type 0
+PatchBook = (count : ℕ) (ws : List Entry) → held count ws ≡ [] → (ms : List Message) → All OfBytes ms
+    → Promises (λ k. standing k ms count ws none) (heldAfter ms count ws)
+
+-- ---- demand 1
+
+-- the numbers of a change: a patch is taken or refused with 16 to 18, an unpatch is taken, a body that does not read is refused with 7 or 8
+abbrev pub Numbered : Change → ℕ → Type 0
+Numbered (patch f) n = (n ≡ 0) ⊎ ((16 ≤ n) × (n ≤ 18))
+Numbered (unpatch ids) n = n ≡ 0
+Numbered (unread m) n = (n ≡ m) × (7 ≤ n) × (n ≤ 8)
+
+-- an answer leaves the count and the words lent as they were
+abbrev pub Kept : ℕ → List Entry → ℕ × ℕ × List Entry → Type 0
+Kept count ws r = (r .1 ≡ count) × (r .2 ≡ ws)
+
+-- book-numbers (Numbers): each message has its number, and one that is refused changes nothing
+abbrev pub BookNumbers : Type 0
+BookNumbers = (m : Message) (count : ℕ) (ws : List Entry)
+    → Numbered (change m) (answer (change m) count ws .0)
+    × ((answer (change m) count ws .0 ≡ 0) ⊎ Kept count ws (answer (change m) count ws))

@@ -1,0 +1,4 @@
+pub mod Bits
+pub mod Entry
+pub mod Book
+pub mod Claims

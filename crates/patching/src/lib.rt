@@ -1,0 +1,1 @@
+// The patch book: definitions and laws stand in specs/.
