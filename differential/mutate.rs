@@ -1,10 +1,12 @@
-//! mutate EXECUTABLE K OUT: a copy of the executable with one bit turned in the machine code of our archive: the lowest of a constant operand, or of a
-//! jump's condition. K chooses the place. The disassembly (objdump -dF) comes from standard input.
+//! mutate EXECUTABLE K OUT: a copy of the executable with one bit turned in the machine code of our archive: the lowest of
+//! a constant operand, or of a jump's condition. K chooses the place. The disassembly (objdump -dF) comes from standard
+//! input.
 use std::io::Read;
 
-const CRATES: [&str; 15] = [
-    "search::", "wire::", "put::", "floats::", "header::", "pinf::", "sdmx::", "fptc::", "fsel::", "finf::", "caex::",
-    "chls::", "citp::", "turns::", "writer::",
+/// The crates whose functions are in the archive's code beside the exported ones.
+const CRATES: [&str; 18] = [
+    "search", "wire", "put", "floats", "header", "pinf", "sdmx", "fptc", "fsel", "finf", "fixture", "caex", "chls",
+    "layers", "citp", "turns", "writer", "plain",
 ];
 
 struct Place {
@@ -46,7 +48,8 @@ fn places(disassembly: &str) -> Vec<Place> {
     let mut function = None;
     for line in disassembly.lines() {
         if let Some((address, name, offset)) = heading(line) {
-            let ours = name.starts_with("citp_") || CRATES.iter().any(|start| name.starts_with(start));
+            let ours =
+                name.starts_with("citp_") || name.split_once("::").is_some_and(|(start, _)| CRATES.contains(&start));
             function = ours.then_some((address, name, offset));
         }
         let fields: Vec<&str> = line.split('\t').collect();

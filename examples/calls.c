@@ -292,6 +292,18 @@ static void book(void) {
     CHECK(citp_book_taken(1, entries, 2, 3) == 512 && citp_book_first_free(1, entries, 2, 3) == 512);
 }
 
+/* ---- strings past their limit, where no packet's walk comes first: a book's message, a list that is stepped through */
+
+static void limits(void) {
+    uint8_t ptch[8 + 257 + 1] = {9}, names[2 * 257] = {0};
+    uint64_t held[] = {entries[0], entries[1]};
+    memset(ptch + 8, 'x', 256);
+    memset(names, 'x', 2 * 256);
+    is_booked(citp_book_patch(1, entries, 2, ptch, sizeof ptch), 19, 1);
+    CHECK(memcmp(held, entries, sizeof held) == 0);
+    CHECK(citp_feed_names_next(names, sizeof names, 0, 1).number == 19 && citp_feed_names_next(names, sizeof names, 2, 1).len == 255);
+}
+
 int main(void) {
     w = citp_writer_new();
     write_caex(), write_sdmx(), write_others(), write_feeds();
@@ -307,6 +319,7 @@ int main(void) {
     CHECK(r.writer.items == 0x0102 && r.writer.identifiers == 3 && r.writer.at == 0x04050607);
     counts();
     book();
+    limits();
     printf("20 kinds written, walked and read back; a patch book kept\n");
     return 0;
 }

@@ -24,6 +24,7 @@
  *    16       a channel count to be patched is outside 1 to 512, or the span passes channel 511
  *    17       a channel to be patched is held by another fixture
  *    18       a fixture to be patched is new, and as many are held as there is room for
+ *    19       a string, read or to be written, is longer than 255 bytes or units, frame_names than 65,535 bytes
  * A refused call leaves `out` and `entries` as they were.
  *
  * A string or a block is a range of the body that it was read from: `start` and `len`, counted in bytes, of a Ucs2
@@ -75,11 +76,11 @@ extern "C" {
 #define CITP_UNKNOWN_LAYER 2 /* layer */
 #define CITP_UNKNOWN_KIND 3  /* layer, content_type */
 #define CITP_FRAGMENT 4      /* part, part_count */
-#define CITP_REFUSED 5       /* number, 6 to 10 */
+#define CITP_REFUSED 5       /* number, 6 to 10 or 19 */
 
 typedef struct {
     uint8_t report; /* CITP_END to CITP_REFUSED */
-    uint8_t number; /* of the end, 0 at the stream's end, else 1 to 5; of a refused packet, 6 to 10; else 0 */
+    uint8_t number; /* of the end, 0 at the stream's end, else 1 to 5; of a refused packet, 6 to 10 or 19; else 0 */
     uint8_t kind;   /* of a message: CITP_ENTER_SHOW to CITP_LASER_FEED_FRAME */
     uint16_t request_index;
     uint16_t part;
@@ -383,7 +384,7 @@ citp_laser_point_next citp_laser_points_next(const uint8_t *body, size_t body_le
  * a list whole */
 
 typedef struct {
-    uint8_t number; /* 0; a string 8 or 13, a list 7 or 13 */
+    uint8_t number; /* 0; a string, of any length, 8 or 13, a list 7 or 13 */
     size_t len;     /* bytes, units or items copied */
 } citp_copied;
 
@@ -578,7 +579,7 @@ citp_written citp_writer_laser_point(citp_writer w, uint8_t *out, size_t out_len
  * channel. */
 
 typedef struct {
-    uint8_t number; /* 0; of a body that does not read 7 or 8; of a patch else 16, then 17, then 18 */
+    uint8_t number; /* 0; a body that does not read: 7, of a Ptch also 8 or 19; else of a patch 16, then 17, then 18 */
     size_t count;   /* for the next call */
 } citp_booked;
 

@@ -1,6 +1,7 @@
 //! A string's end.
 use crate::inputs::letters;
 use crate::library;
+use crate::limits::limit;
 use crate::measure::Row;
 use crate::rows::row;
 use std::hint::black_box;
@@ -16,6 +17,9 @@ extern "C" fn plain(body: *const u8, len: usize) -> library::StringBody {
     let mut i = 0;
     while i < body.len() {
         if body[i] == 0 {
+            if i > limit("PNam") {
+                return library::StringBody { number: 19, ..Default::default() };
+            }
             return library::StringBody { number: 0, taken: i + 1, start: 0, len: i };
         }
         i += 1;
@@ -24,21 +28,17 @@ extern "C" fn plain(body: *const u8, len: usize) -> library::StringBody {
 }
 
 pub fn rows(rows: &mut Vec<Row>) {
-    let name = |n: usize, behind: usize| -> &'static [u8] { [letters(n), vec![0], letters(behind)].concat().leak() };
-    let ours = |name: &[u8]| {
-        let name = black_box(name);
-        library::pnam_read(name).len as u64
-    };
-    let long = name(65_535, 0);
+    let long: &'static [u8] = [vec![0; 4], letters(limit("Fram")), vec![0]].concat().leak();
+    let names = &long[4..];
     row(
         rows,
         "memchr",
         "64 KiB",
-        move || unsafe { memchr(black_box(long.as_ptr()), 0, long.len()) as u64 - long.as_ptr() as u64 },
-        move || ours(long),
+        move || unsafe { memchr(black_box(names.as_ptr()), 0, names.len()) as u64 - names.as_ptr() as u64 },
+        move || library::fram_read(black_box(long)).frame_names_len as u64,
     );
     for n in 0..=16 {
-        let name = name(n, 0);
+        let name: &'static [u8] = [letters(n), vec![0]].concat().leak();
         row(
             rows,
             "plain loop",
@@ -48,7 +48,7 @@ pub fn rows(rows: &mut Vec<Row>) {
                 let answer = plain(name.as_ptr(), name.len());
                 black_box(&answer).len as u64
             },
-            move || ours(name),
+            move || library::pnam_read(black_box(name)).len as u64,
         );
     }
 }

@@ -1,6 +1,7 @@
 //! Bodies, values and streams that both sides get.
 use crate::bodies::Part;
 use crate::given::{Given, Layer};
+use crate::limits::limit;
 use crate::rust::Body;
 use citp::protocol;
 
@@ -18,8 +19,15 @@ pub struct Size {
 pub const SMALL: Size = Size { string: 0, list: 0, block: 0, lamps: 1, feeds: 0, points: 0 };
 /// A venue of 100 lamps.
 const TYPICAL: Size = Size { string: 12, list: 100, block: 512, lamps: 100, feeds: 4, points: 500 };
-/// The most that a count holds; strings as long; a packet of 1,000 lamps.
+/// The most that a count holds; strings at their limits; a packet of 1,000 lamps.
 const LARGEST: Size = Size { string: 65_535, list: 65_535, block: 65_535, lamps: 1_000, feeds: 255, points: 65_535 };
+
+impl Size {
+    /// Strings no longer than a kind allows.
+    pub fn within<T: Body>(self) -> Size {
+        Size { string: self.string.min(limit(T::NAME)), ..self }
+    }
+}
 
 pub const SIZES: [(&str, Size); 3] = [("small", SMALL), ("typical", TYPICAL), ("largest", LARGEST)];
 

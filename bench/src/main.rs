@@ -15,6 +15,9 @@ mod kinds;
 #[allow(dead_code)]
 #[path = "../../bindings/rust/citp.rs"]
 mod library;
+#[allow(dead_code)]
+#[path = "../../differential/src/limits.rs"]
+mod limits;
 mod measure;
 #[allow(dead_code)]
 #[path = "../../differential/src/pens.rs"]

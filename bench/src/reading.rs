@@ -48,7 +48,7 @@ macro_rules! readers {
     ($($t:ty, $kind:ident, $read:ident, $shape:tt $rest:tt)*) => {
         pub fn rows(rows: &mut Vec<Row>) {
             $(for (size, elements) in sizes(<$t>::SHAPE) {
-                let body: &'static [u8] = body(<$t>::SHAPE, elements).leak();
+                let body: &'static [u8] = body(<$t>::SHAPE, elements.within::<$t>()).leak();
                 sized(rows, <$t>::GROUP, <$t>::NAME, size, <$t>::theirs(body), move || {
                     let body = black_box(body);
                     library::$read(body).taken as u64

@@ -82,7 +82,7 @@ where
     T::Layer: Packets,
 {
     if !LENT.contains(&T::KIND) && sizes(T::SHAPE).any(|(name, _)| name == size) {
-        packet::<T>(rows, T::NAME, size, value(&body(T::SHAPE, elements)), |value, pen| value.give(pen));
+        packet::<T>(rows, T::NAME, size, value(&body(T::SHAPE, elements.within::<T>())), |value, pen| value.give(pen));
     }
 }
 
@@ -135,14 +135,11 @@ fn give_fixture(
 
 /// The rows of `LENT`.
 fn lent(rows: &mut Vec<Row>, size: &'static str, elements: Size) {
-    let name = units(elements.string);
-    packet(
-        rows,
-        "EnterShow",
-        size,
-        value::<caex::EnterShow>(&body(caex::EnterShow::SHAPE, elements)),
-        move |_, pen| pen.enter_show(&name),
-    );
+    let show = elements.within::<caex::EnterShow>();
+    let name = units(show.string);
+    packet(rows, "EnterShow", size, value::<caex::EnterShow>(&body(caex::EnterShow::SHAPE, show)), move |_, pen| {
+        pen.enter_show(&name)
+    });
     let list: caex::FixtureList = value(&body(caex::FixtureList::SHAPE, elements));
     let texts: Vec<Strings> = list.fixtures.iter().map(strings).collect();
     packet(rows, "FixtureList", size, list, move |list, pen| {

@@ -99,7 +99,7 @@ pub const UNKNOWN_LAYER: u8 = 2;
 pub const UNKNOWN_KIND: u8 = 3;
 /// part, part_count
 pub const FRAGMENT: u8 = 4;
-/// number, 6 to 10
+/// number, 6 to 10 or 19
 pub const REFUSED: u8 = 5;
 
 #[repr(C)]
@@ -107,7 +107,7 @@ pub const REFUSED: u8 = 5;
 pub struct Step {
     /// END to REFUSED
     pub report: u8,
-    /// of the end, 0 at the stream's end, else 1 to 5; of a refused packet, 6 to 10; else 0
+    /// of the end, 0 at the stream's end, else 1 to 5; of a refused packet, 6 to 10 or 19; else 0
     pub number: u8,
     /// of a message: ENTER_SHOW to LASER_FEED_FRAME
     pub kind: u8,
@@ -493,7 +493,7 @@ functions! {
 #[repr(C)]
 #[derive(Clone, Copy, Debug, Default, PartialEq, Eq)]
 pub struct Copied {
-    /// 0; a string 8 or 13, a list 7 or 13
+    /// 0; a string, of any length, 8 or 13, a list 7 or 13
     pub number: u8,
     /// bytes, units or items copied
     pub len: usize,
@@ -693,7 +693,7 @@ functions! {
 #[repr(C)]
 #[derive(Clone, Copy, Debug, Default, PartialEq, Eq)]
 pub struct Booked {
-    /// 0; of a body that does not read 7 or 8; of a patch else 16, then 17, then 18
+    /// 0; a body that does not read: 7, of a Ptch also 8 or 19; else of a patch 16, then 17, then 18
     pub number: u8,
     /// for the next call
     pub count: usize,

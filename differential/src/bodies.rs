@@ -27,13 +27,21 @@ pub enum Size {
     Long,
 }
 
+/// A length near a limit, one in sixteen past it.
+fn near(limit: usize, random: &mut Random) -> usize {
+    match random.below(16) {
+        0 => random.between(limit + 1, limit + 16),
+        _ => random.between(limit - 15, limit),
+    }
+}
+
 impl Size {
     fn string(self, random: &mut Random) -> usize {
         match self {
             Size::Small => random.between(0, 8),
             Size::Middle => random.between(9, 70),
-            Size::Large => random.between(240, 272),
-            Size::Long => random.between(65_525, 65_545),
+            Size::Large => near(255, random),
+            Size::Long => near(65_535, random),
         }
     }
 
@@ -117,14 +125,15 @@ fn identifier(size: Size, random: &mut Random, out: &mut Vec<u8>) {
     bytes(n, random, out);
 }
 
-/// A string of a fixture: short ones in long lists, but for one in a thousand.
+/// Whether a string of a list is of the list's own size class: one in sixteen; in long lists, where it is past its
+/// limit, one in five thousand.
+fn stands_out(size: Size, random: &mut Random) -> bool {
+    random.below(if size == Size::Long { 5_000 } else { 16 }) == 0
+}
+
 fn fixture_string(size: Size, random: &mut Random, out: &mut Vec<u8>) {
-    let size = match size {
-        Size::Middle => Size::Middle,
-        Size::Long if random.below(1000) == 0 => Size::Long,
-        _ => Size::Small,
-    };
-    ucs2(size.string(random), random, out);
+    let short = size != Size::Middle && !stands_out(size, random);
+    ucs2(if short { Size::Small } else { size }.string(random), random, out);
 }
 
 fn fixture(size: Size, random: &mut Random, out: &mut Vec<u8>) {
@@ -141,13 +150,12 @@ fn fixture(size: Size, random: &mut Random, out: &mut Vec<u8>) {
     (0..6).for_each(|_| float(random, out));
 }
 
-/// A name of a feed: short, but for one in sixteen, in long lists one in a thousand.
 fn feed_name(size: Size, random: &mut Random, out: &mut Vec<u8>) {
-    let short = random.below(if size == Size::Long { 1000 } else { 16 }) > 0;
+    let short = !stands_out(size, random);
     ucs2(if short { Size::Small } else { size }.string(random), random, out);
 }
 
-/// A body that can be read.
+/// A body with all its parts.
 pub fn good(shape: &[Part], size: Size, random: &mut Random) -> Vec<u8> {
     let mut out = Vec::new();
     for part in shape {

@@ -1,6 +1,7 @@
 //! One body read by both and, where it is read, written by both.
-use crate::bodies::{self, Size};
+use crate::bodies::{self, damage, Size};
 use crate::canon::written;
+use crate::limits::{self, Stop};
 use crate::ours::{self, Ours};
 use crate::random::Random;
 use crate::rust::{self, Answer, Body};
@@ -18,12 +19,16 @@ fn unended(body: &[u8]) -> bool {
 }
 
 /// The refusals that are due, none where the body is to be read, by what the Rust reads and writes again as the bytes
-/// taken. 7 and 8 are one outcome of the Rust; of the kinds that it does not read, a cut frame is 7, a cut list 7 in its
-/// first five bytes and 8 behind them.
+/// taken, which are those of the body's parts. The Rust has no limit of a string: 19 goes by the parts, whatever the Rust
+/// makes of what stands behind. 7 and 8 are one outcome of the Rust; of the kinds that it does not read, a cut frame is
+/// 7, a cut list 7 in its first five bytes and 8 behind them.
 pub fn due<T: Body>(answer: &Answer<T>, body: &[u8]) -> Result<&'static [u8], String> {
+    let parts = limits::taken::<T>(body);
     match answer {
         Answer::Read(..) if T::NAME == "EnterShow" && unended(body) => Ok(&[8]),
         Answer::Read(value, taken) if written(value) != body[..*taken] => Err("written as other bytes".to_string()),
+        _ if matches!(parts, Err(Stop::PastLimit(_))) => Ok(&[19]),
+        Answer::Read(_, taken) if parts != Ok(*taken) => Err("read otherwise than by its parts".to_string()),
         Answer::Read(..) => Ok(&[]),
         Answer::UnexpectedEof => Ok(match T::NAME {
             "LaserFeedFrame" => &[7],
@@ -81,6 +86,7 @@ fn look<T: Compared>(body: &[u8], scratch: &mut Scratch) -> Seen {
         }),
         (Ok(numbers), _) if !numbers.contains(&ours.number) => Some("refusal"),
         (Ok(_), _) if !scratch.ours.is_empty() => Some("fields of a refused answer"),
+        (Ok([19]), Answer::Read(value, taken)) => value.compare_writing(&body[..*taken]).err(),
         _ => None,
     };
     Seen { number: ours.number, written, difference }
@@ -89,15 +95,21 @@ fn look<T: Compared>(body: &[u8], scratch: &mut Scratch) -> Seen {
 pub fn body<T: Compared>(body: &[u8], scratch: &mut Scratch, tally: &mut Tally) {
     let seen = look::<T>(body, scratch);
     tally.bodies += 1;
-    tally.numbers[seen.number as usize & 15] += 1;
+    tally.answered(seen.number);
     tally.written += seen.written as u64;
     if let Some(what) = seen.difference {
         tally.differs(what, body, String::new);
     }
 }
 
+/// The longest body that is made smaller; the time that it takes goes by the square of its length.
+const SHRINKABLE: usize = 10_000;
+
 /// A body made smaller as long as it shows the same difference: one, two or four bytes left out, or a byte made zero.
 pub fn shrink<T: Compared>(body: &[u8], what: &str) -> Vec<u8> {
+    if body.len() > SHRINKABLE {
+        return body.to_vec();
+    }
     let shows = |body: &[u8]| look::<T>(body, &mut Scratch::default()).difference == Some(what);
     let smaller = |body: &[u8], at: usize| {
         let without = [4, 2, 1].map(|n| [&body[..at], body.get(at + n..).unwrap_or(&[])].concat());
@@ -145,6 +157,27 @@ fn first_other_byte(rust: &[u8], ours: &[u8]) -> Option<String> {
 pub fn short<T: Compared>(tally: &mut Tally) {
     let mut scratch = Scratch::default();
     bodies::short(T::SHAPE, &mut |body_| body::<T>(body_, &mut scratch, tally));
+}
+
+/// Of a string around the limits the cuts behind it, the copies damaged behind it, and those damaged anywhere.
+const OF_EACH: usize = 8;
+
+/// Strings of the lengths around the limits: whole, without their end, and in cut and damaged bodies.
+pub fn limits<T: Compared>(random: &mut Random, tally: &mut Tally) {
+    let mut scratch = Scratch::default();
+    for (whole, text) in limits::around::<T>(&limits::LENGTHS, random) {
+        let mut see = |seen: &[u8]| body::<T>(seen, &mut scratch, tally);
+        see(&whole);
+        (1..=text.width).for_each(|n| see(&whole[..text.end() - n]));
+        for _ in 0..OF_EACH {
+            see(&whole[..random.between(text.end(), whole.len())]);
+            let (mut anywhere, mut behind) = (whole.clone(), whole[text.end()..].to_vec());
+            damage(&mut anywhere, random);
+            damage(&mut behind, random);
+            see(&anywhere);
+            see(&[&whole[..text.end()], &behind].concat());
+        }
+    }
 }
 
 /// A long body and every cut of it.

@@ -9,6 +9,7 @@ use citp::protocol::{caex, finf, fptc, fsel, pinf, sdmx, Header};
 pub struct Kind {
     pub name: &'static str,
     pub short: fn(&mut Tally),
+    pub limits: fn(&mut Random, &mut Tally),
     pub cuts: fn(&mut Random, &mut Tally),
     pub rounds: fn(&mut Random, u64, &mut Tally),
     pub shrink: fn(&[u8], &str) -> Vec<u8>,
@@ -21,6 +22,7 @@ const fn kind<T: Compared>() -> Kind {
     Kind {
         name: T::NAME,
         short: compare::short::<T>,
+        limits: compare::limits::<T>,
         cuts: compare::cuts::<T>,
         rounds: compare::rounds::<T>,
         shrink: compare::shrink::<T>,

@@ -52,6 +52,12 @@ fn show_written<T: Given>(input: &str, value: &T) {
     show(input, rust_writes(value), ours_writes(|pen| value.give(pen)));
 }
 
+/// A value written, and what the Rust wrote read.
+fn show_read_back<T: Given + compare::Compared>(input: &str, value: &T) {
+    show_written(input, value);
+    println!("    read back: {}", compare::answers::<T>(&written(value)));
+}
+
 fn walk(stream: &[u8]) -> String {
     let step = library::walk_step(stream, 0);
     match step.report {
@@ -127,6 +133,21 @@ fn reading() {
     entry(27, "Kinds that the Rust does not read");
     show_written_and_read("LaserFeedList of two empty names", &feeds(2, 2));
     show_written_and_read("LaserFeedFrame of one point", &frame(1, 1));
+    entry(28, "A string longer than its limit");
+    for n in [255, 256] {
+        show_read_back(&format!("PNam of {n} bytes 41"), &pinf::PNam { name: letters(n) });
+        show_read_back(&format!("EnterShow of {n} units 41"), &caex::EnterShow { name: ucs2_of(&vec![0x41; n]) });
+    }
+    for n in [65_535, 65_536] {
+        let (fixture_identifier, frame_filter_count, frame_gobo_count) = (1, 2, 3);
+        let frame_names = letters(n);
+        let frames = finf::Fram { fixture_identifier, frame_filter_count, frame_gobo_count, frame_names };
+        show_read_back(&format!("Fram 1, 2, 3 of {n} bytes 41"), &frames);
+    }
+}
+
+fn letters(n: usize) -> CString {
+    CString::new(vec![0x41; n]).expect("no zero")
 }
 
 /// What the Rust writes, read by ours whole and without its last byte.
@@ -217,18 +238,32 @@ fn fixtures(fixture_count: u16, fixtures: Vec<caex::Fixture<'static>>) -> caex::
     }
 }
 
+fn identifier(data_size: u16) -> caex::Identifier<'static> {
+    caex::Identifier {
+        identifier_type: caex::IdentifierType::RDMDeviceModelId,
+        data_size,
+        data: Cow::Owned(vec![0; data_size as usize]),
+    }
+}
+
+/// Two fixtures without names, the first with 255 identifiers of 65,535 bytes, the second with one of so many.
+fn large_list(last: u16) -> caex::FixtureList<'static> {
+    let first = caex::Fixture { identifiers: Cow::Owned(vec![identifier(65_535); 255]), ..fixture(&[], &[], 255) };
+    let second = caex::Fixture { identifiers: Cow::Owned(vec![identifier(last)]), ..fixture(&[], &[], 1) };
+    fixtures(2, vec![first, second])
+}
+
 const CANNOT: &str = "cannot be expressed";
 
 fn zero_in_strings() {
     entry(7, "A string that holds a zero");
     for units in [&[0][..], &[0x41, 0, 0x42]] {
-        let value = caex::EnterShow { name: ucs2_of(units) };
-        show_written(&format!("EnterShow of the units {units:X?}"), &value);
-        println!("    read back: {}", compare::answers::<caex::EnterShow>(&written(&value)));
+        show_read_back(&format!("EnterShow of the units {units:X?}"), &caex::EnterShow { name: ucs2_of(units) });
     }
-    let list = fixtures(1, vec![fixture(&[0xE9, 0], &[0x42], 0)]);
-    show_written("FixtureList of one fixture, manufacturer_name E9, 0 and fixture_name \"B\"", &list);
-    println!("    read back: {}", compare::answers::<caex::FixtureList>(&written(&list)));
+    show_read_back(
+        "FixtureList of one fixture, manufacturer_name E9, 0 and fixture_name \"B\"",
+        &fixtures(1, vec![fixture(&[0xE9, 0], &[0x42], 0)]),
+    );
     show(
         "UNam of the bytes 41, 0",
         format!("{:?}", CString::new([0x41, 0]).map_err(|error| error.to_string())),
@@ -254,12 +289,7 @@ fn count_fields() {
         rust_writes(&caex::FixtureRemove { fixture_count: 1, fixture_identifiers: Cow::Owned(Vec::new()) }),
         CANNOT,
     );
-    let identifier = caex::Identifier {
-        identifier_type: caex::IdentifierType::RDMDeviceModelId,
-        data_size: 0,
-        data: Cow::Owned(Vec::new()),
-    };
-    let full = caex::Fixture { identifiers: Cow::Owned(vec![identifier; 256]), ..fixture(&[], &[], 0) };
+    let full = caex::Fixture { identifiers: Cow::Owned(vec![identifier(0); 256]), ..fixture(&[], &[], 0) };
     show(
         "Fixture, identifier_count 0, 256 identifiers without data",
         rust_writes(&full),
@@ -295,15 +325,15 @@ fn outputs_and_turns() {
         3,
     );
     entry(15, "A packet above 16,777,216 bytes");
-    for n in [16_777_191, 16_777_192] {
-        let name = pinf::PNam { name: CString::new(vec![0x41; n]).expect("no zero") };
+    for last in [64_896, 64_897] {
+        let list = large_list(last);
         let mut out = vec![0; 16_777_217];
         let mut packet = Packet::new(&mut out);
-        let numbers = [packet.open(library::PNAM, 0, 0), name.give(&mut packet), packet.close()];
+        let numbers = [packet.open(library::FIXTURE_LIST, 0, 0), list.give(&mut packet), packet.close()];
         show(
-            &format!("PNam of {n} bytes"),
-            format!("a packet of {} bytes", name.message(n + 1, 0, 0).len()),
-            format!("open, body, close answer {numbers:?}"),
+            &format!("FixtureList of two fixtures, 255 identifiers of 65535 bytes and one of {last}"),
+            format!("a packet of {} bytes", list.message(written(&list).len(), 0, 0).len()),
+            format!("open, the list's calls up to a refusal, close answer {numbers:?}"),
         );
     }
     entry(16, "Calls out of turn");

@@ -9,6 +9,7 @@ mod kinds;
 #[allow(dead_code)]
 #[path = "../../bindings/rust/citp.rs"]
 mod library;
+mod limits;
 mod ours;
 mod pens;
 mod plant;

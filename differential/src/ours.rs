@@ -2,6 +2,7 @@
 use crate::canon::{self, Canon};
 use crate::kinds::kinds;
 use crate::library;
+use crate::limits::Text;
 use crate::plant;
 use citp::protocol::{caex, finf, fptc, fsel, pinf, sdmx, Header};
 
@@ -49,26 +50,41 @@ impl Canon for Block<'_> {
     }
 }
 
+/// The bytes of a string, as they stand in the body and as they are copied out.
+fn bytes_of(body: &[u8], start: usize, len: usize) -> Option<&[u8]> {
+    let copy = copied(len, |out| library::copy_cstring(body, start, out))?;
+    part(body, start, len).filter(|bytes| *bytes == copy)
+}
+
+/// The units of a string.
+fn units_of(body: &[u8], start: usize, len: usize) -> Option<Vec<u16>> {
+    let copy = copied(len, |out| library::copy_ucs2(body, start, out))?;
+    let bytes = part(body, start, 2 * len)?;
+    bytes.chunks(2).zip(&copy).all(|(two, unit)| two == unit.to_le_bytes()).then_some(copy)
+}
+
+/// Whether a string of any length is copied out, and refused with 8 without its end.
+pub fn is_copied(body: &[u8], text: Text) -> bool {
+    let Text { start, len, width } = text;
+    let unended = &body[..text.end() - 1];
+    let (copied, refused) = match width {
+        1 => (bytes_of(body, start, len).is_some(), library::copy_cstring(unended, start, &mut [])),
+        _ => (units_of(body, start, len).is_some(), library::copy_ucs2(unended, start, &mut [])),
+    };
+    copied && refused == (library::Copied { number: 8, len: 0 })
+}
+
 impl Canon for CString<'_> {
     fn canon(&self, out: &mut Vec<u8>) {
-        let CString(body, start, len) = *self;
-        let copy = copied(len, |out| library::copy_cstring(body, start, out));
-        match (part(body, start, len), copy) {
-            (Some(bytes), Some(copy)) if bytes == copy => canon::block(bytes, out),
-            _ => canon::block(WRONG, out),
-        }
+        canon::block(bytes_of(self.0, self.1, self.2).unwrap_or(WRONG), out);
     }
 }
 
 impl Canon for Ucs2<'_> {
     fn canon(&self, out: &mut Vec<u8>) {
-        let Ucs2(body, start, len) = *self;
-        let copy = copied(len, |out| library::copy_ucs2(body, start, out));
-        match (part(body, start, 2 * len), copy) {
-            (Some(bytes), Some(copy)) if bytes.chunks(2).zip(&copy).all(|(two, unit)| two == unit.to_le_bytes()) => {
-                canon::units(&copy, out)
-            }
-            _ => canon::block(WRONG, out),
+        match units_of(self.0, self.1, self.2) {
+            Some(units) => canon::units(&units, out),
+            None => canon::block(WRONG, out),
         }
     }
 }
@@ -203,7 +219,7 @@ macro_rules! answer {
         } else if $m != refused {
             $out.extend_from_slice(b"a refused answer holds more than its number");
         }
-        plant::answer(stringify!($read), Answer { number: $m.number, taken: $m.taken })
+        plant::answer(stringify!($read), $body, Answer { number: $m.number, taken: $m.taken })
     }};
 }
 

@@ -2,7 +2,7 @@
 use crate::ours::Answer;
 use std::sync::atomic::{AtomicU8, Ordering};
 
-pub const FAULTS: [&str; 10] = [
+pub const FAULTS: [&str; 12] = [
     "UNam: an empty name takes a byte more",
     "FixtureList: 9 is answered as 7",
     "FixtureList: position_x: a NaN is made quiet",
@@ -13,6 +13,8 @@ pub const FAULTS: [&str; 10] = [
     "LaserFeedList: 8 is answered as 7",
     "LaserFeedList: the last of 255 names is left out",
     "LaserFeedFrame: the last of 65,535 points is left out",
+    "PNam: a name of 256 bytes is read",
+    "FixtureList: 19 on writing is answered as 13",
 ];
 
 static PLANTED: AtomicU8 = AtomicU8::new(0);
@@ -25,12 +27,13 @@ pub fn on(fault: u8) -> bool {
     PLANTED.load(Ordering::Relaxed) == fault
 }
 
-pub fn answer(reader: &str, answer: Answer) -> Answer {
+pub fn answer(reader: &str, body: &[u8], answer: Answer) -> Answer {
     match reader {
         "unam_read" if on(1) && answer.taken == 2 => Answer { taken: 3, ..answer },
         "fixture_list_read" if on(2) && answer.number == 9 => Answer { number: 7, ..answer },
         "enter_show_read" if on(7) && answer.number == 8 => Answer { number: 0, ..answer },
         "laser_feed_list_read" if on(8) && answer.number == 8 => Answer { number: 7, ..answer },
+        "pnam_read" if on(11) && answer.number == 19 && body.len() == 257 => Answer { number: 0, ..answer },
         _ => answer,
     }
 }

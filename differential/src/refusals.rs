@@ -1,5 +1,7 @@
 //! Calls that are to be refused: the number, and output and state as they were.
+use crate::compared::KINDS;
 use crate::library::{self, ChannelLevel, FixtureData};
+use crate::limits;
 use crate::pens::{Alone, At, Call, Packet, Pen, BODIES, ITEMS};
 use crate::tally::Tally;
 use crate::writing::{blank, holds};
@@ -33,6 +35,18 @@ const LIMIT: usize = 16_777_216;
 /// A string with a zero at its start, in its middle and at its end.
 fn with_zeros<T: From<u8>>() -> [Vec<T>; 4] {
     [&[0u8][..], &[0, 0x41], &[0x41, 0, 0x42], &[0x41, 0]].map(|bytes| bytes.iter().map(|&b| T::from(b)).collect())
+}
+
+/// The limit of the strings of calls at this place.
+fn limit_at(place: Place) -> usize {
+    limits::limit(KINDS[place.0 as usize].name)
+}
+
+/// The strings of a call, empty but for those given by their numbers.
+fn with<'a, T, const N: usize>(given: &[(usize, &'a [T])]) -> [&'a [T]; N] {
+    let mut strings: [&[T]; N] = [&[]; N];
+    given.iter().for_each(|&(i, string)| strings[i] = string);
+    strings
 }
 
 /// A call by one of the pens, in a packet behind the calls of its place: what it gives, and whether the output is as before.
@@ -76,7 +90,7 @@ impl Calls<'_> {
     }
 
     /// A call that ends at the largest packet's end (13, the output is shorter) and one that ends behind it (15).
-    fn at_limit(&mut self, what: &'static str, place: Place, call: &dyn Fn(&mut dyn Pen) -> u8) {
+    fn at_packet_limit(&mut self, what: &'static str, place: Place, call: &dyn Fn(&mut dyn Pen) -> u8) {
         for alone in [true, false] {
             let (size, _) = with_pen(alone, place, &|pen| {
                 let start = pen.at();
@@ -99,16 +113,54 @@ impl Calls<'_> {
         place: Place,
         call: &dyn Fn(&mut dyn Pen, &[T]) -> u8,
     ) {
+        let limit = limit_at(place);
         for string in with_zeros::<T>() {
             self.refused(what, place, 11, &|pen| call(pen, &string));
         }
-        for (len, due) in [(LIMIT, 15), (ROOM, 13)] {
+        for len in [limit + 1, ROOM, LONG - 1, LONG, LIMIT] {
             let string = vec![T::from(0x41); len];
-            self.refused(what, place, due, &|pen| call(pen, &string));
+            self.refused(what, place, if len > limit { 19 } else { 13 }, &|pen| call(pen, &string));
         }
-        for len in [0, 1, 70] {
+        for len in [0, 1, 70, 255] {
             let string = vec![T::from(0x41); len];
-            self.at_limit(what, place, &|pen| call(pen, &string));
+            self.at_packet_limit(what, place, &|pen| call(pen, &string));
+        }
+        self.past_string_limit(what, place, vec![T::from(0x41); limit + 1], call);
+    }
+
+    /// A string past its limit is 19 before 15 and 13, and 14 out of turn; with a zero at its end it is 11.
+    fn past_string_limit<T: From<u8>>(
+        &mut self,
+        what: &'static str,
+        place: Place,
+        mut string: Vec<T>,
+        call: &dyn Fn(&mut dyn Pen, &[T]) -> u8,
+    ) {
+        for at in [ROOM, LIMIT, usize::MAX] {
+            self.refused(what, place, 19, &|pen| {
+                pen.set_at(at);
+                call(pen, &string)
+            });
+        }
+        let mut out = blank(ROOM);
+        self.in_packet(what, 14, &mut Packet::new(&mut out), |packet| call(packet, &string));
+        string.push(T::from(0));
+        self.refused(what, place, 11, &|pen| call(pen, &string));
+    }
+
+    /// Each string of a call, the others empty, and a zero in it beside another that is past its limit.
+    fn strings<T: Clone + From<u8>, const N: usize>(
+        &mut self,
+        names: [&'static str; N],
+        place: Place,
+        call: &dyn Fn(&mut dyn Pen, [&[T]; N]) -> u8,
+    ) {
+        let (zero, long) = ([T::from(0)], vec![T::from(0x41); limit_at(place) + 1]);
+        for (i, what) in names.into_iter().enumerate() {
+            self.string(what, place, &|pen, string| call(pen, with(&[(i, string)])));
+            for j in (0..N).filter(|&j| j != i) {
+                self.refused(what, place, 11, &|pen| call(pen, with(&[(i, &zero), (j, &long)])));
+            }
         }
     }
 
@@ -119,7 +171,7 @@ impl Calls<'_> {
         }
         for items in [0, 1, 40] {
             let list = vec![T::default(); items];
-            self.at_limit(what, place, &|pen| call(pen, &list));
+            self.at_packet_limit(what, place, &|pen| call(pen, &list));
         }
     }
 }
@@ -129,23 +181,27 @@ fn data() -> FixtureData {
 }
 
 fn strings(c: &mut Calls) {
-    c.string("EnterShow name", body(library::ENTER_SHOW), &|pen, s| pen.enter_show(s));
-    c.string("manufacturer_name", FIXTURE, &|pen, s| pen.fixture_head(1, s, &[], &[], 2, 3, 0));
-    c.string("fixture_name", FIXTURE, &|pen, s| pen.fixture_head(1, &[], s, &[], 2, 3, 0));
-    c.string("mode_name", FIXTURE, &|pen, s| pen.fixture_head(1, &[], &[], s, 2, 3, 0));
-    c.string("unit", DATA, &|pen, s| pen.fixture_data(data(), s, &[], &[]));
-    c.string("circuit", DATA, &|pen, s| pen.fixture_data(data(), &[], s, &[]));
-    c.string("note", DATA, &|pen, s| pen.fixture_data(data(), &[], &[], s));
-    c.string("feed name", FEED_NAME, &|pen, s| pen.feed_name(s));
-    c.string("UNam universe_name", body(library::UNAM), &|pen, s| pen.unam(1, s));
-    c.string("Sxus connection_string", body(library::SXUS), &|pen, s| pen.sxus(1, s));
-    c.string("Ptch fixture_make", body(library::PTCH), &|pen, s| pen.ptch(1, 2, 3, 4, 5, s, &[]));
-    c.string("Ptch fixture_name", body(library::PTCH), &|pen, s| pen.ptch(1, 2, 3, 4, 5, &[], s));
-    c.string("Fram frame_names", body(library::FRAM), &|pen, s| pen.fram(1, 2, 3, s));
-    c.string("PNam name", body(library::PNAM), &|pen, s| pen.pnam(s));
-    c.string("PLoc kind", body(library::PLOC), &|pen, s| pen.ploc(1, s, &[], &[]));
-    c.string("PLoc name", body(library::PLOC), &|pen, s| pen.ploc(1, &[], s, &[]));
-    c.string("PLoc state", body(library::PLOC), &|pen, s| pen.ploc(1, &[], &[], s));
+    c.strings(["EnterShow name"], body(library::ENTER_SHOW), &|pen, [name]| pen.enter_show(name));
+    c.strings(["manufacturer_name", "fixture_name", "mode_name"], FIXTURE, &|pen, [manufacturer, name, mode]| {
+        pen.fixture_head(1, manufacturer, name, mode, 2, 3, 0)
+    });
+    c.strings(["unit", "circuit", "note"], DATA, &|pen, [unit, circuit, note]| {
+        pen.fixture_data(data(), unit, circuit, note)
+    });
+    c.strings(["feed name"], FEED_NAME, &|pen, [name]| pen.feed_name(name));
+    c.strings(["UNam universe_name"], body(library::UNAM), &|pen, [name]| pen.unam(1, name));
+    c.strings(["Sxus connection_string"], body(library::SXUS), &|pen, [connection]| pen.sxus(1, connection));
+    c.strings(["Ptch fixture_make", "Ptch fixture_name"], body(library::PTCH), &|pen, [make, name]| {
+        pen.ptch(1, 2, 3, 4, 5, make, name)
+    });
+    c.strings(["Fram frame_names"], body(library::FRAM), &|pen, [names]| pen.fram(1, 2, 3, names));
+    c.strings(["PNam name"], body(library::PNAM), &|pen, [name]| pen.pnam(name));
+    c.strings(["PLoc kind", "PLoc name", "PLoc state"], body(library::PLOC), &|pen, [kind, name, state]| {
+        pen.ploc(1, kind, name, state)
+    });
+    c.refused("mode_name before identifier_count", FIXTURE, 19, &|pen| {
+        pen.fixture_head(1, &[], &[], &[0x41; 256], 2, 3, 256)
+    });
 }
 
 fn lists(c: &mut Calls) {
@@ -245,9 +301,9 @@ fn kinds(c: &mut Calls) {
         out_of_turn(c, kind);
         made_up_states(c, kind);
         open_short(c, kind);
-        c.at_limit("a body at the limit", body(kind), &BODIES[kind as usize]);
+        c.at_packet_limit("a body at the limit", body(kind), &BODIES[kind as usize]);
     }
-    c.at_limit("a laser point at the limit", POINT, &|pen| pen.laser_point(1, 2, 3, 4));
+    c.at_packet_limit("a laser point at the limit", POINT, &|pen| pen.laser_point(1, 2, 3, 4));
     let mut out = blank(ROOM);
     c.in_packet("open for no kind", 14, &mut Packet::new(&mut out), |packet| packet.open(NO_KIND, 1, 2));
 }

@@ -18,6 +18,7 @@ const SHORT_BODIES: u64 = 1 + 256 + 65_536 + 343 + 2_401 + 16_807 + 117_649;
 
 enum Job {
     Short(usize),
+    Limits(usize),
     Cuts(usize),
     Rounds(usize, u64),
     Values(u64),
@@ -25,14 +26,14 @@ enum Job {
     Refusals,
 }
 
-/// In a long run the cuts of a long body of every kind; the short bodies of every kind; then for each kind in turn, and
-/// values of laser feeds, as many rounds as so many bodies need, at least one.
+/// In a long run the cuts of a long body of every kind; the short bodies of every kind and those around the limits of its
+/// strings; then for each kind in turn, and values of laser feeds, as many rounds as so many bodies need, at least one.
 fn jobs(bodies: u64) -> Vec<Job> {
     let mut jobs = vec![Job::Refusals, Job::Sizes];
     if bodies >= LONG_RUN {
         jobs.extend((0..KINDS.len()).map(Job::Cuts));
     }
-    jobs.extend((0..KINDS.len()).map(Job::Short));
+    jobs.extend((0..KINDS.len()).flat_map(|kind| [Job::Short(kind), Job::Limits(kind)]));
     let short = KINDS.len() as u64 * SHORT_BODIES;
     let rounds = bodies.saturating_sub(short).div_ceil(JOB * KINDS.len() as u64).max(1);
     for round in 0..rounds {
@@ -53,6 +54,9 @@ fn work(jobs: &[Job], next: &AtomicUsize, results: &Mutex<Results>) {
         let mut tally = Tally::default();
         match *job {
             Job::Short(kind) => (KINDS[kind].short)(&mut tally),
+            Job::Limits(kind) => {
+                (KINDS[kind].limits)(&mut Random::of(SEED, KINDS[kind].name, u64::MAX - 1), &mut tally)
+            }
             Job::Cuts(kind) => (KINDS[kind].cuts)(&mut Random::of(SEED, KINDS[kind].name, u64::MAX), &mut tally),
             Job::Rounds(kind, number) => {
                 (KINDS[kind].rounds)(&mut Random::of(SEED, KINDS[kind].name, number), JOB, &mut tally)
@@ -63,7 +67,9 @@ fn work(jobs: &[Job], next: &AtomicUsize, results: &Mutex<Results>) {
         }
         let mut results = results.lock().expect("no thread panics with the lock");
         match *job {
-            Job::Short(kind) | Job::Cuts(kind) | Job::Rounds(kind, _) => results.kinds[kind].add(tally),
+            Job::Short(kind) | Job::Limits(kind) | Job::Cuts(kind) | Job::Rounds(kind, _) => {
+                results.kinds[kind].add(tally)
+            }
             Job::Values(_) | Job::Sizes => results.values.add(tally),
             Job::Refusals => results.refusals.add(tally),
         }
@@ -86,7 +92,8 @@ fn show_counts(results: &Results) {
         values.sized,
         values.differ()
     );
-    let calls: Vec<String> = (9..16).map(|number| format!("{number}: {}", results.refusals.numbers[number])).collect();
+    let refused = |number: usize| format!("{number}: {}", results.refusals.numbers[number]);
+    let calls: Vec<String> = (9..16).chain([19]).map(refused).collect();
     println!("calls refused with {}; {} differ", calls.join(", "), results.refusals.differ());
 }
 

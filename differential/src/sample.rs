@@ -7,6 +7,7 @@ use crate::bodies::{damage, good, Size};
 use crate::canon::Canon;
 use crate::compare::due;
 use crate::compared::KINDS;
+use crate::limits;
 use crate::random::Random;
 use crate::rust::{read, Answer, Body};
 use crate::writing::Writes;
@@ -14,7 +15,7 @@ use std::collections::BTreeSet;
 use std::io::Write;
 
 const SEED: u64 = 0x2545_F491_4F6C_DD1D;
-/// Bodies of each kind that are good, cut and damaged.
+/// Bodies of each kind that are good, cut and damaged, of at most LONGEST bytes.
 const EACH: usize = 60;
 const LONGEST: usize = 400;
 
@@ -55,6 +56,8 @@ fn bodies<T: Body>() -> BTreeSet<Vec<u8>> {
             bodies.insert(body);
         }
     }
+    // of any length
+    bodies.extend(limits::around::<T>(&[255, 256], &mut random).into_iter().map(|(body, _)| body));
     bodies
 }
 

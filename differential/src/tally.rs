@@ -11,7 +11,7 @@ pub struct Difference {
 pub struct Tally {
     pub bodies: u64,
     /// Answers of our reader by number; 0 is read.
-    pub numbers: [u64; 16],
+    pub numbers: [u64; 32],
     /// Values that were written by both.
     pub written: u64,
     /// Values of which only the sizes were compared.
@@ -31,6 +31,11 @@ pub fn hex(bytes: &[u8]) -> String {
 }
 
 impl Tally {
+    /// An answer, by its number.
+    pub fn answered(&mut self, number: u8) {
+        self.numbers[number as usize & 31] += 1;
+    }
+
     pub fn differs(&mut self, what: &'static str, input: &[u8], detail: impl FnOnce() -> String) {
         self.put(what, 1, input, detail);
     }
@@ -66,15 +71,15 @@ impl Tally {
 
     pub fn heading() -> String {
         format!(
-            "{:<18}{:>14}{:>13}{:>13}{:>13}{:>11}{:>11}{:>13}{:>9}",
-            "", "bodies", "read", "7", "8", "9", "10", "written", "differ"
+            "{:<18}{:>14}{:>13}{:>13}{:>13}{:>11}{:>11}{:>11}{:>13}{:>9}",
+            "", "bodies", "read", "7", "8", "9", "10", "19", "written", "differ"
         )
     }
 
     pub fn line(&self, name: &str) -> String {
-        let [read, seven, eight, nine, ten] = [0, 7, 8, 9, 10].map(|number| self.numbers[number]);
+        let [read, seven, eight, nine, ten, nineteen] = [0, 7, 8, 9, 10, 19].map(|number| self.numbers[number]);
         format!(
-            "{name:<18}{:>14}{read:>13}{seven:>13}{eight:>13}{nine:>11}{ten:>11}{:>13}{:>9}",
+            "{name:<18}{:>14}{read:>13}{seven:>13}{eight:>13}{nine:>11}{ten:>11}{nineteen:>11}{:>13}{:>9}",
             self.bodies,
             self.written,
             self.differ()

@@ -31,7 +31,7 @@ fn unit(random: &mut Random) -> u16 {
 
 fn list(names: usize, random: &mut Random) -> LaserFeedList<'static> {
     let names = (0..names).map(|_| {
-        let units: Vec<u16> = (0..count(300, random)).map(|_| unit(random)).collect();
+        let units: Vec<u16> = (0..count(255, random)).map(|_| unit(random)).collect();
         ucs2_of(&units)
     });
     let feed_names: Vec<_> = names.collect();
@@ -66,7 +66,7 @@ fn frame(points: usize, random: &mut Random) -> LaserFeedFrame<'static> {
 fn answer<T: Ours>(body: &[u8], tally: &mut Tally) -> (u8, usize, Vec<u8>) {
     let mut fields = Vec::new();
     let answer = T::read_ours(body, &mut fields);
-    tally.numbers[answer.number as usize & 15] += 1;
+    tally.answered(answer.number);
     (answer.number, answer.taken, fields)
 }
 

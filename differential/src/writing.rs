@@ -1,10 +1,13 @@
 //! A value written by both, compared: the body alone, the whole packet, sizes, outputs one byte short, and every byte
-//! that must stay.
+//! that must stay; of a value with a string past its limit the refusal with 19.
 use crate::canon::written;
 use crate::given::{Given, Layer};
 use crate::library;
+use crate::limits::{self, Stop, Text};
+use crate::ours::is_copied;
 use crate::pens::{Alone, At, Packet};
 use crate::plant;
+use crate::rust::Body;
 use citp::protocol::Header;
 
 /// What the output holds before a call, and how far bodies are written from its ends.
@@ -59,20 +62,26 @@ fn compare_alone<T: Given>(value: &T, due: &[u8]) -> Result<(), &'static str> {
     }
 }
 
-/// The last call is refused: what the calls before it wrote stands, and nothing else.
-fn compare_alone_short<T: Given>(value: &T, due: &[u8]) -> Result<(), &'static str> {
-    let mut out = blank(FRONT + due.len() - 1);
+/// A refusal that is due: its number, and a byte of the body that the refused call would have written.
+#[derive(Clone, Copy)]
+struct Refusal {
+    number: u8,
+    of: usize,
+}
+
+/// A call is refused: what the calls before it wrote stands, and nothing else.
+fn alone_refused<T: Given>(value: &T, due: &[u8], room: usize, refusal: Refusal) -> bool {
+    let mut out = blank(FRONT + room);
     let mut pen = Alone { out: &mut out, at: FRONT };
-    let number = value.give(&mut pen);
+    let mut number = value.give(&mut pen);
     let stands = pen.at - FRONT;
     if plant::on(6) && T::KIND == library::SELE {
         out[0] ^= 1;
     }
-    if number == 13 && stands < due.len() && holds(&out, FRONT, &due[..stands]) {
-        Ok(())
-    } else {
-        Err("body into an output one byte short")
+    if plant::on(12) && T::KIND == library::FIXTURE_LIST && number == 19 {
+        number = 13;
     }
+    number == refusal.number && stands <= refusal.of && holds(&out, FRONT, &due[..stands])
 }
 
 fn compare_packet<T: Given>(value: &T, due: &[u8]) -> Result<(), &'static str> {
@@ -88,52 +97,82 @@ fn compare_packet<T: Given>(value: &T, due: &[u8]) -> Result<(), &'static str> {
     }
 }
 
-fn compare_packet_short<T: Given>(value: &T, due: &[u8]) -> Result<(), &'static str> {
-    let mut out = blank(due.len() - 1);
+fn packet_refused<T: Given>(value: &T, due: &[u8], room: usize, refusal: Refusal) -> bool {
+    let mut out = blank(T::Layer::LENGTH + room);
     let mut packet = Packet::new(&mut out);
-    let opened = packet.open(T::KIND, REQUEST_INDEX, CONTENT_HINT);
-    let number = if due.len() > T::Layer::LENGTH { value.give(&mut packet) } else { opened };
+    let opened = packet.open(T::KIND, REQUEST_INDEX, CONTENT_HINT) == 0;
+    let number = value.give(&mut packet);
     let stands = packet.at();
     // the size field is 0 until close
     let mut due = due.to_vec();
     due[8..12].fill(0);
-    if number == 13 && stands < due.len() && holds(&out, 0, &due[..stands]) {
-        Ok(())
-    } else {
-        Err("packet into an output one byte short")
+    opened && number == refusal.number && stands <= T::Layer::LENGTH + refusal.of && holds(&out, 0, &due[..stands])
+}
+
+/// The last call is refused.
+fn compare_short<T: Given>(value: &T, due: &[u8], packet: &[u8]) -> Result<(), &'static str> {
+    let room = due.len() - 1;
+    let refusal = Refusal { number: 13, of: room };
+    match () {
+        _ if !alone_refused(value, due, room, refusal) => Err("body into an output one byte short"),
+        _ if !packet_refused(value, packet, room, refusal) => Err("packet into an output one byte short"),
+        _ => Ok(()),
     }
 }
 
-/// The walk on the Rust's packet: a message of its kind.
-fn compare_walk<T: Given>(packet: &[u8]) -> Result<(), &'static str> {
-    let due = library::Step {
-        report: library::MESSAGE,
-        kind: T::KIND,
+/// The call with the string is refused, whatever the room.
+fn compare_past_limit<T: Given>(value: &T, due: &[u8], packet: &[u8], text: Text) -> Result<(), &'static str> {
+    let refusal = Refusal { number: 19, of: text.start };
+    let rooms = [due.len() - 1, due.len() + BEHIND];
+    match () {
+        _ if !rooms.iter().all(|&room| alone_refused(value, due, room, refusal)) => Err("body past a limit, written"),
+        _ if !rooms.iter().all(|&room| packet_refused(value, packet, room, refusal)) => {
+            Err("packet past a limit, written")
+        }
+        _ if !is_copied(due, text) => Err("string past its limit, copied out"),
+        _ => Ok(()),
+    }
+}
+
+/// The walk on the Rust's packet: a message of its kind, or the refusal with 19.
+fn compare_walk<T: Given>(packet: &[u8], past_limit: bool) -> Result<(), &'static str> {
+    let report = library::Step {
         request_index: REQUEST_INDEX,
-        content_hint: if T::Layer::LENGTH == 28 { CONTENT_HINT } else { 0 },
         size: packet.len() as u32,
         next: packet.len(),
-        body_start: T::Layer::LENGTH,
-        body_len: packet.len() - T::Layer::LENGTH,
         ..Default::default()
     };
-    let step = library::walk_step(packet, 0);
-    if step == due {
+    let due = if past_limit {
+        library::Step { report: library::REFUSED, number: 19, ..report }
+    } else {
+        library::Step {
+            report: library::MESSAGE,
+            kind: T::KIND,
+            content_hint: if T::Layer::LENGTH == 28 { CONTENT_HINT } else { 0 },
+            body_start: T::Layer::LENGTH,
+            body_len: packet.len() - T::Layer::LENGTH,
+            ..report
+        }
+    };
+    if library::walk_step(packet, 0) == due {
         Ok(())
     } else {
         Err("walk over the packet")
     }
 }
 
-impl<T: Given> Writes for T {
+impl<T: Given + Body> Writes for T {
     fn compare_writing(&self, due: &[u8]) -> Result<(), &'static str> {
         compare_size(self, due.len())?;
-        compare_alone(self, due)?;
-        compare_alone_short(self, due)?;
         let packet = self.message(due.len(), REQUEST_INDEX, CONTENT_HINT);
+        if let Err(Stop::PastLimit(text)) = limits::taken::<T>(due) {
+            compare_past_limit(self, due, &packet, text)?;
+            return compare_walk::<T>(&packet, true);
+        }
+        compare_alone(self, due)?;
         compare_packet(self, &packet)?;
-        compare_walk::<T>(&packet)?;
-        compare_packet_short(self, &packet)
+        compare_walk::<T>(&packet, false)?;
+        compare_short(self, due, &packet)
     }
 
     fn packet(&self) -> Option<Vec<u8>> {

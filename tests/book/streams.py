@@ -1,5 +1,5 @@
 #!/usr/bin/env python3
-"""streams.py write: the streams of this folder (.in) and their books (.out), the books of two streams of tests/listing (.out), the
+"""streams.py write: the streams of this folder (.in) and their books (.out), the books of three streams of tests/listing (.out), the
 program's stored run and the small rig's book, by reference.py.
 streams.py compare PROGRAM N: lists the books of long streams, and of N random and damaged ones, by PROGRAM and by reference.py: they must
 agree; and the small rig's book must have the lamps of its fixture list."""
@@ -74,6 +74,9 @@ OTHERS = [
     packet(b'FPTC', b'Ptch', patch(21, 9, 1, 1)[:-1]),  # 8
     packet(b'FPTC', b'Ptch', patch(21, 9, 1, 1)[:7]),  # 7
     packet(b'FPTC', b'UPtc', u16s(0, 10)[:-1]),  # 7
+    packet(b'FPTC', b'Ptch', patch(21, 9, 1, 1, b'x' * 255 + b'\0\0')),
+    packet(b'FPTC', b'Ptch', patch(22, 9, 2, 1, b'x' * 256 + b'\0\0')),  # 19
+    packet(b'FPTC', b'Ptch', patch(22, 9, 2, 1, b'\0' + b'x' * 256 + b'\0')),
     packet(b'FPTC', b'', b'Ptch'),  # 6
     packet(b'FPTC', b'SPtc', u16s(0, 10)),
     packet(b'SDMX', b'Ptch', patch(21, 9, 1, 1)),  # unknown
@@ -103,7 +106,7 @@ STREAMS = {
     'cut': b''.join(SMALL)[:-1],
 }
 
-OF_LISTING = ('kinds', 'end_4_small')  # streams of tests/listing
+OF_LISTING = ('kinds', 'limits', 'end_4_small')  # streams of tests/listing
 
 
 def long_streams():

@@ -23,12 +23,14 @@ class Body:
         self.at += width
         return int.from_bytes(self.data[self.at - width:self.at], 'little')
 
-    def string(self, width):
+    def string(self, width, limit):
         units, at = [], self.at
         while len(self.data) - at >= width:
             unit = int.from_bytes(self.data[at:at + width], 'little')
             at += width
             if unit == 0:
+                if len(units) > limit:
+                    raise Refused(19)
                 self.at = at
                 return units
             units.append(unit)
@@ -58,12 +60,12 @@ def code(name, limit, refusal):
     return lines
 
 
-def cstring(name):
-    return lambda body: ['%s=%s' % (name, escaped(body.string(1)))]
+def cstring(name, limit=255):
+    return lambda body: ['%s=%s' % (name, escaped(body.string(1, limit)))]
 
 
 def ucs2(name):
-    return lambda body: ['%s=%s' % (name, escaped(body.string(2)))]
+    return lambda body: ['%s=%s' % (name, escaped(body.string(2, 255)))]
 
 
 def items(count, width, *fields):
@@ -117,7 +119,8 @@ KINDS = {(layer, type_): (name, fields) for layer, type_, name, *fields in (
     (b'FSEL', b'Sele', 'Sele', number('complete', 1), number('reserved', 1), numbers('fixture_identifiers', 2)),
     (b'FSEL', b'DeSe', 'DeSe', numbers('fixture_identifiers', 2)),
     (b'FINF', b'SFra', 'SFra', numbers('fixture_identifiers', 2)),
-    (b'FINF', b'Fram', 'Fram', number('fixture_identifier', 2), number('frame_filter_count', 1), number('frame_gobo_count', 1), cstring('frame_names')),
+    (b'FINF', b'Fram', 'Fram', number('fixture_identifier', 2), number('frame_filter_count', 1), number('frame_gobo_count', 1),
+     cstring('frame_names', 65535)),
     (b'PINF', b'PNam', 'PNam', cstring('name')),
     (b'PINF', b'PLoc', 'PLoc', number('listening_tcp_port', 2), cstring('kind'), cstring('name'), cstring('state')),
 )}

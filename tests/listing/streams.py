@@ -50,6 +50,30 @@ def frame(source_key, feed_index, frame_sequence, *points):
     return head + b''.join(struct.pack('<BBBH', *point) for point in points)
 
 
+def lamp(names, unit='', circuit='', note=''):
+    """A fixture list of one fixture that has nothing but names."""
+    return b'\0\1\0' + fixture(1, names, [], (0, 0, 0, unit, 0, circuit, note, *[0] * 6))
+
+
+def named(length):
+    """For each string of each kind a packet in which it has so many bytes or units, and the kind's other strings few or none."""
+    text = 'x' * length
+    string = text.encode() + b'\0'
+    alone = [[''] * i + [text] + [''] * (2 - i) for i in range(3)]
+    return [
+        packet(b'PINF', b'PNam', string),
+        *[packet(b'PINF', b'PLoc', bytes(2 + i) + string + bytes(2 - i)) for i in range(3)],
+        packet(b'SDMX', b'UNam', b'\0' + string),
+        packet(b'SDMX', b'SXUS', b'\0' + string),
+        *[packet(b'FPTC', b'Ptch', struct.pack('<HBBHH', i + 1, 0, 0, i, 1) + bytes(i) + string + bytes(1 - i)) for i in range(2)],
+        packet(b'FINF', b'Fram', bytes(4) + string),
+        packet(b'CAEX', 0x00020100, ucs2(text)),
+        *[packet(b'CAEX', 0x00020201, lamp(names)) for names in alone],
+        *[packet(b'CAEX', 0x00020201, lamp([''] * 3, *names)) for names in alone],
+        packet(b'CAEX', 0x00030101, feed_list(0, 'A', text)),
+    ]
+
+
 FIXTURES = [
     fixture(1, ('Maker', 'Fresnel 1 kW', '1 channel'), [identifier(0, b'\x12\x34'), identifier(2, bytes(range(16))), identifier(5, b'')],
             (1, 0, 0, '1', 101, 'A1', 'gel L201', 0x3F800000, 0xC0200000, 0, 0x80000000, 0x42B40000, 0x7F800000)),
@@ -105,6 +129,17 @@ OTHERS = [
     packet(b'CAEX', 0x00020201, b'\0\1\0' + fixture(1, ('', '', ''), [identifier(6, b'')], (0, 0, 0, '', 0, '', '', 0, 0, 0, 0, 0, 0))),  # 10
 ]
 
+LIMITS = [
+    *named(255),
+    *named(256),  # 19, but for Fram
+    packet(b'FINF', b'Fram', bytes(4) + b'x' * 9999 + b'\0'),
+    packet(b'PINF', b'PNam', b'x' * 256),  # 8: the end comes first
+    packet(b'CAEX', 0x00020100, ucs2('x' * 256)[:-1]),
+    packet(b'PINF', b'PLoc', bytes(2) + b'x' * 256 + b'\0'),  # 19: in the order of the fields
+    packet(b'PINF', b'PLoc', bytes(3) + b'x' * 256),  # 8
+    packet(b'CAEX', 0x00020201, lamp(('x' * 256, '', ''))[:530]),  # 19, before the 7 of what is cut off
+]
+
 ALL = b''.join(MESSAGES + OTHERS)
 SHORT = MESSAGES[2]
 
@@ -112,6 +147,7 @@ STREAMS = {
     'example': bytes.fromhex('43495450 01000000 1B000000 01000000 53444D58 554E616D 034100'),
     'empty': b'',
     'kinds': ALL + SHORT[:-1],
+    'limits': b''.join(LIMITS),
     'end_0': SHORT + SHORT,
     'end_1': SHORT + bytes(19),
     'end_2': SHORT + b'CITp' + SHORT[4:],
@@ -125,9 +161,11 @@ STREAMS = {
 def long_streams():
     """Streams of 65,536 bytes and more, of which no more are read."""
     yield packet(b'SDMX', b'ChBk', bytes(4) + struct.pack('<H', 65506) + b'\xff' * 65506)
-    yield packet(b'SDMX', b'UNam', b'\x01' + b'\xff' * (65536 - 26) + b'\0')
+    yield packet(b'SDMX', b'UNam', b'\x01' + b'\xff' * (65536 - 26) + b'\0')  # 19
+    yield packet(b'FINF', b'Fram', bytes(4) + b'\xff' * (65536 - 29) + b'\0')
     yield packet(b'FPTC', b'UPtc', u16s(*[65535] * 32753))
-    yield packet(b'CAEX', 0x00030101, feed_list(0, *[''] * 254, '\uffff' * 32498) + b'?')
+    yield packet(b'CAEX', 0x00030101, feed_list(0, *[''] * 254, '\uffff' * 32498) + b'?')  # 19
+    yield packet(b'CAEX', 0x00030101, feed_list(0, *['\uffff' * 255] * 127, *[''] * 128) + b'?' * 227)
     yield packet(b'CAEX', 0x00030200, frame(0, 0, 0, *[(255, 255, 255, 65535)] * 13100) + b'?')
     yield packet(b'MSEX', b'') * 4000
     yield (ALL * 42)[:65536]
@@ -174,7 +212,7 @@ def compare_all(program, streams, reference):
 
 def compare(program, n):
     rng = random.Random(6)
-    some = [damaged(rng, [rng.choice(MESSAGES + OTHERS) for _ in range(rng.randrange(1, 6))]) for _ in range(n)]
+    some = [damaged(rng, [rng.choice(MESSAGES + OTHERS + LIMITS) for _ in range(rng.randrange(1, 6))]) for _ in range(n)]
     compare_all(program, [*long_streams(), *some], lambda stream: listing(stream[:65536]))
 
 

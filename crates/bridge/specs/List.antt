@@ -1,11 +1,10 @@
 -- What a step through a list and a string copy answer: an item with the cursor behind it and `given` 1; nothing where the list is done; the number of a refusal and nothing else.
 use Prim.Native.Nat.{ℕ}
 use mathlib.Core.List.{List}
-use Rattle.format.specs.Format.{ucs2}
 use Rattle.format.specs.View.{View, Next, item, done, broken}
 use Rattle.format.specs.Copy.{Answer, took, denied}
 use Rattle.plain.specs.Numbers.{flatNumbers}
-use Rattle.protocol.specs.Kind.{channelLevelFormat, fixtureFormat, identifierFormat, laserPointFormat}
+use Rattle.protocol.specs.Kind.{channelLevelFormat, fixtureFormat, identifierFormat, feedNameFormat, laserPointFormat}
 use Rattle.bridge.specs.declared.list.U16Answer.{U16Answer}
 use Rattle.bridge.specs.declared.list.U32Answer.{U32Answer}
 use Rattle.bridge.specs.declared.list.ChannelLevelAnswer.{ChannelLevelAnswer}
@@ -109,7 +108,7 @@ flatFixture = flatNext fixture noFixture
 abbrev pub noFeedName : ℕ → FeedNameAnswer
 noFeedName k = record { number = k; given = 0; left = 0; at = 0; start = 0; len = 0 }
 
-abbrev pub flatFeedName : Next (View ucs2) → FeedNameAnswer
+abbrev pub flatFeedName : Next (View feedNameFormat) → FeedNameAnswer
 flatFeedName = flatNext (λ x at n. record { number = 0; given = 1; left = n; at = at; start = x .0; len = x .1 }) noFeedName
 
 abbrev pub noLaserPoint : ℕ → LaserPointAnswer

@@ -1,9 +1,9 @@
 // Lists stepped through, lists of numbers and strings copied. `given` is 1 with an item and the cursor behind it; else the list is done, or refused.
 ghost use mathlib.Core.Path.{_≡_};
-ghost use Rattle.format.specs.Format.{number, ucs2};
+ghost use Rattle.format.specs.Format.{number};
 ghost use Rattle.format.specs.View.{stepped, item};
 ghost use Rattle.format.specs.Copy.{copyCString, copyUcs2, copyNumbers};
-ghost use Rattle.protocol.specs.Kind.{channelLevelFormat, fixtureFormat, identifierFormat, laserPointFormat};
+ghost use Rattle.protocol.specs.Kind.{channelLevelFormat, fixtureFormat, identifierFormat, feedNameFormat, laserPointFormat};
 ghost use Rattle.fixture.specs.Says.{fixtureView};
 ghost use Rattle.bridge.specs.List.{noU16, noU32, noChannelLevel, noIdentifier, noFixture, flatU16, flatU32, flatChannelLevel, flatIdentifier};
 ghost use Rattle.bridge.specs.List.{flatFixture, noFeedName, flatFeedName, noLaserPoint, flatLaserPoint, flatCopy};
@@ -333,7 +333,7 @@ fn no_feed_name(number: u8) -> FeedNameAnswer
 
 #[no_mangle]
 pub extern "C" fn citp_feed_names_next(body: &[u8], at: usize, left: u8) -> FeedNameAnswer
-    ensures { λ r. ⌜ r ≡ flatFeedName (stepped ucs2 (now (body .entry)) at left) ⌝ }
+    ensures { λ r. ⌜ r ≡ flatFeedName (stepped feedNameFormat (now (body .entry)) at left) ⌝ }
 {
     let list = FeedNames { at, left };
     match list.next(body) {

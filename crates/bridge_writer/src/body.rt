@@ -1,9 +1,8 @@
 // Bodies written alone, at a place of the output. Lists of CAEX are written as their head and item by item.
 ghost use mathlib.Core.Path.{_≡_};
 ghost use mathlib.Core.List.{map};
-ghost use Rattle.format.specs.Format.{ucs2};
 ghost use Rattle.format.specs.Passed.{inRange};
-ghost use Rattle.protocol.specs.Kind.{identifierFormat, fixtureDataFormat, fixtureHead, laserPointFormat};
+ghost use Rattle.protocol.specs.Kind.{identifierFormat, fixtureDataFormat, fixtureHead, feedNameFormat, laserPointFormat};
 ghost use Rattle.protocol.specs.Layer.{header};
 ghost use Rattle.put.specs.Put.{putAt};
 ghost use Rattle.caex.specs.Write.{fixtureListHead, laserFeedListHead, laserFeedFrameHead};
@@ -369,7 +368,7 @@ pub extern "C" fn citp_laser_feed_list_write_name(
     at: usize,
     feed_name: &[u16],
 ) -> Put
-    ensures { λ r. ⌜ (r, now (out .exit)) ≡ putAt ucs2 (now («feed_name» .entry)) at (now (out .entry)) ⌝ }
+    ensures { λ r. ⌜ (r, now (out .exit)) ≡ putAt feedNameFormat (now («feed_name» .entry)) at (now (out .entry)) ⌝ }
 {
     LaserFeedList::write_name(out, at, feed_name)
 }

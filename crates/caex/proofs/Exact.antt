@@ -1,10 +1,9 @@
 -- What an answer says determines it: nothing is lost.
 use Prim.Native.Nat.{ℕ, zero, suc}
 use mathlib.Core.Path.{_≡_, refl, ap}
-use Rattle.format.specs.Format.{ucs2}
 use Rattle.format.specs.View.{View, Seen, seen, missed, Next, item, done, broken}
 use Rattle.protocol.specs.Kind as kind
-use Rattle.protocol.specs.Kind.{bodyOf, laserPointFormat}
+use Rattle.protocol.specs.Kind.{bodyOf, feedNameFormat, laserPointFormat}
 use Rattle.protocol.proofs.Bodies.{bodyBy, ifKind, asKind}
 use Rattle.wire.proofs.Says.{readBy}
 use Rattle.caex.specs.Codes.{messageTypeCode, messageTypeSays}
@@ -96,7 +95,7 @@ pub laser-feed-list-exact : (r : LaserFeedListRead) → r ≡ readBy laser-feed-
 laser-feed-list-exact (laser-feed-list.Read x c) = refl
 laser-feed-list-exact (laser-feed-list.Refused n) = refl
 
-abbrev feedNamesNextOf : Next (View ucs2) → FeedNamesNext
+abbrev feedNamesNextOf : Next (View feedNameFormat) → FeedNamesNext
 feedNamesNextOf (item (a, a′) e n) = feed-names-next.Item (record { start = a; len = a′ }) (record { at = e; left = n })
 feedNamesNextOf done = feed-names-next.Done
 feedNamesNextOf (broken n) = feed-names-next.Refused n

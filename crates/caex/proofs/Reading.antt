@@ -2,12 +2,12 @@
 use Prim.Native.Nat.{ℕ, _-_}
 use mathlib.Core.Path.{_≡_, refl}
 use mathlib.Core.List.{List}
-use Rattle.format.specs.Format.{ucs2, list}
+use Rattle.format.specs.Format.{list}
 use Rattle.format.specs.View.{seen, missed, view, item, broken, stepped}
 use Rattle.format.proofs.Chain.{met}
-use Rattle.protocol.specs.Kind.{fixtureFormat, laserPointFormat}
+use Rattle.protocol.specs.Kind.{fixtureFormat, feedNameFormat, laserPointFormat}
 use Rattle.wire.specs.Items.{itemsAt}
-use Rattle.wire.specs.Says.{u8Says, u16Says, ucs2Says, itemsSays}
+use Rattle.wire.specs.Says.{u8Says, u16Says, ucs2Says, ucs2Number, itemsSays}
 use Rattle.wire.specs.declared.Cursor.{Cursor}
 use Rattle.wire.specs.declared.Items.{Items}
 use Rattle.wire.specs.declared.ItemsRead.{ItemsRead}
@@ -48,29 +48,30 @@ fixtures-off = list-refused 2 fixtureFormat u16Says u16.Read u16.Short (λ n c. 
 pub fixtures-uncounted : ListShort 2 fixtureFormat u16Says u16.Read u16.Short
 fixtures-uncounted = list-none 2 fixtureFormat u16Says u16.Read u16.Short (λ n c. refl) refl
 
-pub names-there : ListSeen 1 ucs2 u8Says u8.Read u8.Short
-names-there = list-seen 1 ucs2 u8Says u8.Read u8.Short (λ n c. refl) refl
+pub names-there : ListSeen 1 feedNameFormat u8Says u8.Read u8.Short
+names-there = list-seen 1 feedNameFormat u8Says u8.Read u8.Short (λ n c. refl) refl
 
-pub names-off : ListRefused 1 ucs2 u8Says u8.Read u8.Short
-names-off = list-refused 1 ucs2 u8Says u8.Read u8.Short (λ n c. refl) refl
+pub names-off : ListRefused 1 feedNameFormat u8Says u8.Read u8.Short
+names-off = list-refused 1 feedNameFormat u8Says u8.Read u8.Short (λ n c. refl) refl
 
-pub names-uncounted : ListShort 1 ucs2 u8Says u8.Read u8.Short
-names-uncounted = list-none 1 ucs2 u8Says u8.Read u8.Short (λ n c. refl) refl
+pub names-uncounted : ListShort 1 feedNameFormat u8Says u8.Read u8.Short
+names-uncounted = list-none 1 feedNameFormat u8Says u8.Read u8.Short (λ n c. refl) refl
 
-pub names-passed : Passes ucs2 feedNamesNextSays feed-names-next.Item feed-names-next.Done feed-names-next.Refused (λ (l : FeedNames). l .at)
+pub names-passed : Passes feedNameFormat feedNamesNextSays feed-names-next.Item feed-names-next.Done feed-names-next.Refused (λ (l : FeedNames). l .at)
     (λ (l : FeedNames). l .left)
 names-passed =
-    passes ucs2 feedNamesNextSays feed-names-next.Item feed-names-next.Done feed-names-next.Refused (λ (l : FeedNames). l .at)
+    passes feedNameFormat feedNamesNextSays feed-names-next.Item feed-names-next.Done feed-names-next.Refused (λ (l : FeedNames). l .at)
     (λ (l : FeedNames). l .left) range (λ a l. refl) refl (λ k. refl)
 
--- a step to a name, which is there or has no end
+-- a step to a name, which is there, or has no end or is past its limit
 module _ (s : List ℕ) (at n : ℕ) (r : Ucs2Read) where
-  pub name-item : (x : Ucs2) (c : Cursor) → (n ≡ 0 → ⊥) → ucs2Says r ≡ view ucs2 s at → r ≡ ucs2-read.Read x c
-      → item (range x) (c .at) (n - 1) ≡ stepped ucs2 s at n
-  name-item x c h t i = next-item ucs2 s at n h (met ucs2Says t i)
+  pub name-item : (x : Ucs2) (c : Cursor) → (n ≡ 0 → ⊥) → ucs2Says r ≡ view feedNameFormat s at → r ≡ ucs2-read.Read x c
+      → item (range x) (c .at) (n - 1) ≡ stepped feedNameFormat s at n
+  name-item x c h t i = next-item feedNameFormat s at n h (met ucs2Says t i)
 
-  pub name-unended : (n ≡ 0 → ⊥) → ucs2Says r ≡ view ucs2 s at → r ≡ ucs2-read.Unended → broken 8 ≡ stepped ucs2 s at n
-  name-unended h t i = next-off ucs2 s at n h (met ucs2Says t i)
+  pub name-refused : (k : ℕ) {m : ℕ} → (n ≡ 0 → ⊥) → ucs2Says r ≡ view feedNameFormat s at → r ≡ ucs2-read.Refused k → m ≡ ucs2Number r
+      → broken m ≡ stepped feedNameFormat s at n
+  name-refused k h t i e = rw (e, i) (next-off feedNameFormat s at n h (met ucs2Says t i))
 
 -- points have one width: the list is there where its count and its bytes are
 module _ (s : List ℕ) (at : ℕ) (r : ItemsRead) (t : itemsSays r ≡ itemsAt 5 s at) where
@@ -82,4 +83,4 @@ module _ (s : List ℕ) (at : ℕ) (r : ItemsRead) (t : itemsSays r ≡ itemsAt 
 
 pub ruleset needs = (wire.needs, code-byte-short, code-known, message-type-missed, message-type-seen, message-type-unknown, fixtures-there, fixtures-off, fixtures-uncounted)
 
-pub ruleset feed-needs = (wire.needs, u16-last, u16-none, next-done, name-item, name-unended, names-there, names-off, names-uncounted, points-there, points-off)
+pub ruleset feed-needs = (wire.needs, u16-last, u16-none, next-done, name-item, name-refused, names-there, names-off, names-uncounted, points-there, points-off)

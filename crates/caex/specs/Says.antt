@@ -1,8 +1,8 @@
 -- What each answer says: a body's fields with the offset behind them, or the number of the refusal.
-use Rattle.format.specs.Format.{Format, ucs2}
+use Rattle.format.specs.Format.{Format}
 use Rattle.format.specs.View.{View, Seen, seen, missed, Next, item, done, broken}
 use Rattle.protocol.specs.Kind as kind
-use Rattle.protocol.specs.Kind.{bodyOf, laserPointFormat}
+use Rattle.protocol.specs.Kind.{bodyOf, feedNameFormat, laserPointFormat}
 use Rattle.protocol.specs.Step.{Body, known, unread, refusedWith}
 use Rattle.caex.specs.Codes.{messageTypeCode}
 use Rattle.caex.specs.Write.{pointValue}
@@ -92,7 +92,7 @@ abbrev pub laserFeedListSays : LaserFeedListRead → Seen (View laserFeedList)
 laserFeedListSays (laser-feed-list.Read x c) = seen (laserFeedListView x) (c .at)
 laserFeedListSays (laser-feed-list.Refused n) = missed n
 
-abbrev pub feedNamesNextSays : FeedNamesNext → Next (View ucs2)
+abbrev pub feedNamesNextSays : FeedNamesNext → Next (View feedNameFormat)
 feedNamesNextSays (feed-names-next.Item x l) = item (range x) (l .at) (l .left)
 feedNamesNextSays feed-names-next.Done = done
 feedNamesNextSays (feed-names-next.Refused n) = broken n

@@ -2,10 +2,10 @@
 // A size is at most usize::MAX; its contract has 0 for each number, whose width is fixed.
 // A list is written as its head with the count of its items, then item by item; a count is given wider than its field.
 ghost use mathlib.Core.Path.{_≡_};
-ghost use Rattle.format.specs.Format.{number, ucs2, size};
+ghost use Rattle.format.specs.Format.{number, size};
 ghost use Rattle.format.specs.View.{view, stepped};
 ghost use Rattle.format.specs.Passed.{passed, inRange};
-ghost use Rattle.protocol.specs.Kind.{laserPointFormat};
+ghost use Rattle.protocol.specs.Kind.{feedNameFormat, laserPointFormat};
 ghost use Rattle.protocol.specs.Layer.{CAEX};
 ghost use Rattle.protocol.specs.Step.{readBody};
 ghost use Rattle.put.specs.Put.{capped, putAt, putHead};
@@ -20,6 +20,7 @@ use fixture::PassRead;
 use put::Put;
 use put::holds_zero_unit;
 use put::more;
+use put::over_limit;
 use put::put_number_1;
 use put::put_number_2;
 use put::put_u8;
@@ -33,6 +34,7 @@ use put::ucs2_size;
 use put::weigh;
 use wire::Cursor;
 use wire::ItemsRead;
+use wire::NAME_LIMIT;
 use wire::U8Read;
 use wire::U16Read;
 use wire::U32List;
@@ -69,8 +71,9 @@ impl EnterShow {
         ensures { λ r. ⌜ enterShowSays r ≡ view enterShow (now (body .entry)) 0 ⌝ }
     {
         let c = Cursor { at: 0 };
-        let Ucs2Read::Read(name, c) = c.ucs2(body) else {
-            return EnterShowRead::Refused(8);
+        let answer = c.ucs2(body, NAME_LIMIT);
+        let Ucs2Read::Read(name, c) = answer else {
+            return EnterShowRead::Refused(answer.number());
         };
         EnterShowRead::Read(EnterShow { name }, c)
     }
@@ -85,8 +88,9 @@ impl EnterShow {
         ensures { λ r. ⌜ (r, now (out .exit)) ≡ putAt enterShow (now (name .entry)) at (now (out .entry)) ⌝ }
     {
         let zeros = holds_zero_unit(name);
+        let over = over_limit(name.len(), NAME_LIMIT);
         let len = EnterShow::size_bytes(name);
-        let number = weigh(zeros, false, at, len, out.len());
+        let number = weigh(zeros, over, false, at, len, out.len());
         if number != 0 {
             return Put { number, at };
         }
@@ -192,7 +196,7 @@ impl FixtureList {
     ) -> Put
         ensures { λ r. ⌜ (r, now (out .exit)) ≡ putHead fixtureListHead (messageTypeCode «message_type») 2 «fixture_count» at (now (out .entry)) ⌝ }
     {
-        let number = weigh(false, 65536 <= fixture_count, at, 3, out.len());
+        let number = weigh(false, false, 65536 <= fixture_count, at, 3, out.len());
         if number != 0 {
             return Put { number, at };
         }
@@ -247,7 +251,7 @@ impl FixtureRemove {
     {
         let long = u32_list_too_long(fixture_identifiers);
         let len = FixtureRemove::size_bytes(fixture_identifiers);
-        let number = weigh(false, long, at, len, out.len());
+        let number = weigh(false, false, long, at, len, out.len());
         if number != 0 {
             return Put { number, at };
         }
@@ -303,7 +307,7 @@ impl LaserFeedControl {
         ensures { λ r. ⌜ (r, now (out .exit)) ≡ putAt laserFeedControl («feed_index», «frame_rate») at (now (out .entry)) ⌝ }
     {
         let len = LaserFeedControl::size_bytes();
-        let number = weigh(false, false, at, len, out.len());
+        let number = weigh(false, false, false, at, len, out.len());
         if number != 0 {
             return Put { number, at };
         }
@@ -365,7 +369,7 @@ impl LaserFeedList {
     pub fn write_head(out: &mut [u8], at: usize, source_key: u32, feed_count: usize) -> Put
         ensures { λ r. ⌜ (r, now (out .exit)) ≡ putHead laserFeedListHead «source_key» 1 «feed_count» at (now (out .entry)) ⌝ }
     {
-        let number = weigh(false, 256 <= feed_count, at, 5, out.len());
+        let number = weigh(false, false, 256 <= feed_count, at, 5, out.len());
         if number != 0 {
             return Put { number, at };
         }
@@ -376,7 +380,7 @@ impl LaserFeedList {
 
     // A string alone, as an EnterShow's name is.
     pub fn write_name(out: &mut [u8], at: usize, feed_name: &[u16]) -> Put
-        ensures { λ r. ⌜ (r, now (out .exit)) ≡ putAt ucs2 (now («feed_name» .entry)) at (now (out .entry)) ⌝ }
+        ensures { λ r. ⌜ (r, now (out .exit)) ≡ putAt feedNameFormat (now («feed_name» .entry)) at (now (out .entry)) ⌝ }
     {
         EnterShow::write_to_bytes(out, at, feed_name)
     }
@@ -397,15 +401,16 @@ pub enum FeedNamesNext {
 
 impl FeedNames {
     pub fn next(self, body: &[u8]) -> FeedNamesNext
-        ensures { λ r. ⌜ feedNamesNextSays r ≡ stepped ucs2 (now (body .entry)) (self .at) (self .left) ⌝ }
+        ensures { λ r. ⌜ feedNamesNextSays r ≡ stepped feedNameFormat (now (body .entry)) (self .at) (self .left) ⌝ }
     {
         let left = self.left;
         if left == 0 {
             return FeedNamesNext::Done;
         }
         let c = Cursor { at: self.at };
-        let Ucs2Read::Read(feed_name, c) = c.ucs2(body) else {
-            return FeedNamesNext::Refused(8);
+        let answer = c.ucs2(body, NAME_LIMIT);
+        let Ucs2Read::Read(feed_name, c) = answer else {
+            return FeedNamesNext::Refused(answer.number());
         };
         FeedNamesNext::Item(
             feed_name,
@@ -418,7 +423,7 @@ impl FeedNames {
 
     // Steps to the end.
     fn pass(self, body: &[u8]) -> PassRead
-        ensures { λ r. ⌜ passSays r ≡ passed ucs2 (now (body .entry)) (self .at) (self .left) ⌝ }
+        ensures { λ r. ⌜ passSays r ≡ passed feedNameFormat (now (body .entry)) (self .at) (self .left) ⌝ }
     {
         let mut rest = self;
         loop {
@@ -504,7 +509,7 @@ impl LaserFeedFrame {
     ) -> Put
         ensures { λ r. ⌜ (r, now (out .exit)) ≡ putHead laserFeedFrameHead («source_key», («feed_index», «frame_sequence»)) 2 «point_count» at (now (out .entry)) ⌝ }
     {
-        let number = weigh(false, 65536 <= point_count, at, 11, out.len());
+        let number = weigh(false, false, 65536 <= point_count, at, 11, out.len());
         if number != 0 {
             return Put { number, at };
         }
@@ -572,7 +577,7 @@ impl LaserPoint {
         ensures { λ r. ⌜ (r, now (out .exit)) ≡ putAt laserPointFormat (pointValue self) at (now (out .entry)) ⌝ }
     {
         let len = LaserPoint::size_bytes();
-        let number = weigh(false, false, at, len, out.len());
+        let number = weigh(false, false, false, at, len, out.len());
         if number != 0 {
             return Put { number, at };
         }

@@ -1,7 +1,6 @@
 -- The rules of the loops over identifiers, fixtures, feed names and points.
 use mathlib.Core.Path.{refl}
-use Rattle.format.specs.Format.{ucs2}
-use Rattle.protocol.specs.Kind.{identifierFormat, fixtureFormat, laserPointFormat}
+use Rattle.protocol.specs.Kind.{identifierFormat, fixtureFormat, feedNameFormat, laserPointFormat}
 use Rattle.caex.specs.Says.{feedNamesNextSays, laserPointsNextSays}
 use Rattle.caex.specs.Write.{pointValue}
 use Rattle.caex.specs.declared.FeedNames.{FeedNames}
@@ -23,9 +22,9 @@ identifiers = itemized _ _ _ _ _ _ _ _ names.identifier (λ a x. refl) refl (λ 
 pub fixtures : Itemized fixtureFormat fixturesNextSays fixtures-next.Item fixtures-next.Done fixtures-next.Refused (λ (l : Fixtures). l .at) (λ (l : Fixtures). l .left) fixtureView
 fixtures = itemized _ _ _ _ _ _ _ _ names.fixture (λ a x. refl) refl (λ k. refl)
 
-pub feed-names : Itemized ucs2 feedNamesNextSays feed-names-next.Item feed-names-next.Done feed-names-next.Refused (λ (l : FeedNames). l .at)
+pub feed-names : Itemized feedNameFormat feedNamesNextSays feed-names-next.Item feed-names-next.Done feed-names-next.Refused (λ (l : FeedNames). l .at)
     (λ (l : FeedNames). l .left) range
-feed-names = itemized _ _ _ _ _ _ _ _ (names.ucs2Of "feed_names") (λ a x. refl) refl (λ k. refl)
+feed-names = itemized _ _ _ _ _ _ _ _ names.feedName (λ a x. refl) refl (λ k. refl)
 
 pub laser-points : Itemized laserPointFormat laserPointsNextSays laser-points-next.Item laser-points-next.Done laser-points-next.Refused
     (λ (l : LaserPoints). l .at) (λ (l : LaserPoints). l .left) pointValue

@@ -250,7 +250,7 @@ fn put_fixtures(out: &mut [u8], from: u32, at: usize, list: Fixtures, body: &[u8
 // ---- laser feeds
 
 fn put_feed_name_items(out: &mut [u8], from: u32, at: usize, list: FeedNames, body: &[u8]) -> usize
-    ensures { λ r. ⌜ Prints from (itemLines (names.ucs2Of "feed_names") (now (body .entry)) (list .at) (list .left))
+    ensures { λ r. ⌜ Prints from (itemLines names.feedName (now (body .entry)) (list .at) (list .left))
         at (now (out .entry)) r (now (out .exit)) ⌝ }
 {
     let mut next = at;
@@ -272,7 +272,7 @@ fn put_feed_name_items(out: &mut [u8], from: u32, at: usize, list: FeedNames, bo
 }
 
 fn put_feed_names(out: &mut [u8], from: u32, at: usize, list: FeedNames, body: &[u8]) -> usize
-    ensures { λ r. ⌜ Lists from (names.listOf {w = 1} "feed_count" (names.ucs2Of "feed_names")) (now (body .entry)) (list .at, list .left)
+    ensures { λ r. ⌜ Lists from (names.listOf {w = 1} "feed_count" names.feedName) (now (body .entry)) (list .at, list .left)
         at (now (out .entry)) r (now (out .exit)) ⌝ }
 {
     let at = put_decimal_line(out, from, at, b"feed_count", list.left as usize);

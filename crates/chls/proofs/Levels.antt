@@ -10,7 +10,7 @@ use lib.ListN.{length, take, getD, set, replicate, length-append, length-map, le
 use lib.Seq.{sets, length-sets, take-length, length-take-le}
 use lib.Dec.{leb}
 use Rattle.format.specs.Format.{Value, number, encode, encodeNumber, concatMap, size, total}
-use Rattle.format.specs.Fault.{holdsZero, tooLong, limit}
+use Rattle.format.specs.Fault.{holdsZero, overLimit, tooLong, limit}
 use Rattle.format.proofs.Faults.{any-never}
 use Rattle.protocol.specs.Kind.{channelLevelFormat}
 use Rattle.put.specs.Put.{Writes, capped, Weighs, settled, putJudged, putAt}
@@ -86,10 +86,10 @@ levels-size xs = rw (total-is xs) refl
 pub size-of : (count : ℕ) → size chls (replicate count (0, (0, 0))) ≡ 2 + 4 * count
 size-of count = levels-size (replicate count (0, (0, 0))) ∙ ap (λ (n : ℕ). 2 + 4 * n) (length-replicate count (0, (0, 0)))
 
-pub number-is : {n len : ℕ} (at count room : ℕ) → Weighs n false (leb 65536 count) at len room → len ≡ capped (size chls (replicate count (0, (0, 0))))
+pub number-is : {n len : ℕ} (at count room : ℕ) → Weighs n false false (leb 65536 count) at len room → len ≡ capped (size chls (replicate count (0, (0, 0))))
     → n ≡ numberOf at count room
 unfolding numberOf
-number-is at count room w e = rw (e, size-of count) at (w .weighs) ∙ weighed-capped false (leb 65536 count) at (2 + 4 * count) room
+number-is at count room w e = rw (e, size-of count) at (w .weighs) ∙ weighed-capped false false (leb 65536 count) at (2 + 4 * count) room
 
 -- a list that is taken
 pub record Taken (at count room : ℕ) : Type 0 where
@@ -99,7 +99,7 @@ pub record Taken (at count room : ℕ) : Type 0 where
 pub taken : (at count room : ℕ) → numberOf at count room ≡ 0 → Taken at count room
 unfolding numberOf
 taken at count room e =
-    let p = passed false (leb 65536 count) (at + (2 + 4 * count)) room e in
+    let p = passed false false (leb 65536 count) (at + (2 + 4 * count)) room e in
     record { within = p .within; has-room = p .has-room }
 
 module _ {n : ℕ} (at count : ℕ) where
@@ -167,6 +167,10 @@ no-zero : (ls : List ChannelLevel) → holdsZero chls (map levelValue ls) ≡ fa
 unfolding holdsZero
 no-zero ls = any-never (map levelValue ls)
 
+not-over : (ls : List ChannelLevel) → overLimit chls (map levelValue ls) ≡ false
+unfolding overLimit
+not-over ls = any-never (map levelValue ls)
+
 too-long : (ls : List ChannelLevel) → tooLong chls (map levelValue ls) ≡ leb 65536 (length ls)
 unfolding tooLong
 too-long ls = rw (any-never, length-map ls levelValue) (or-false (leb 65536 (length ls)))
@@ -194,5 +198,5 @@ pub write-is : {r : Put} {i : ℕ} (at : ℕ) (ls : List ChannelLevel) (out : Li
     → _≡_ {A = Put × List ℕ} (r, upto at ls i out) (putAt chls (map levelValue ls) at out)
 unfolding answerOf putJudged numberOf
 write-is {i = i} at ls out e d =
-    rw (e, upto-all at ls i out d, no-zero ls, too-long ls, length-body ls)
+    rw (e, upto-all at ls i out d, no-zero ls, not-over ls, too-long ls, length-body ls)
     (settles (numberOf at (length ls) (length out)) at (at + (2 + 4 * length ls)) (encode chls (map levelValue ls)) out (rw (length-body ls) refl))

@@ -16,7 +16,7 @@ levelValue l = (l .«universe_index», (l .channel, l .«channel_level»))
 
 -- the number of a write of so many records
 unfoldable pub numberOf : (at count room : ℕ) → ℕ
-numberOf at count room = weighed false (leb 65536 count) (at + (2 + 4 * count)) room
+numberOf at count room = weighed false false (leb 65536 count) (at + (2 + 4 * count)) room
 
 -- by a write's number: taken, or refused
 abbrev pub byNumber : {A : Type 0} → ℕ → A → A → A

@@ -30,7 +30,7 @@ pub fn size_bytes(count: usize) -> usize
 fn number_of(at: usize, count: usize, room: usize) -> u8
     ensures { λ r. ⌜ r ≡ numberOf at count room ⌝ }
 {
-    weigh(false, 65536 <= count, at, size_bytes(count), room)
+    weigh(false, false, 65536 <= count, at, size_bytes(count), room)
 }
 
 fn put_level(out: &mut [u8], at: usize, level: ChannelLevel) -> usize

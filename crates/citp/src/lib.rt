@@ -47,7 +47,7 @@ pub enum Report {
     UnknownKind(u32, u32),
     // its part and the count of parts
     Fragment(u16, u16),
-    // 6 to 10
+    // 6 to 10, or 19
     Refused(u8),
 }
 

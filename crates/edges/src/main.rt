@@ -33,6 +33,12 @@ const FEED_NAMES: Label = *b"laser feed names        ";
 
 const POINTS: Label = *b"laser points            ";
 
+const SHOW_NAME: Label = *b"show name, units        ";
+
+const PEER_NAME: Label = *b"peer name, bytes        ";
+
+const FRAME_NAMES: Label = *b"frame names, bytes      ";
+
 const ROOM: Label = *b"  room                  ";
 
 const WRITTEN: Label = *b"  written, size         ";
@@ -123,7 +129,7 @@ fn read(s: &[u8]) {
 
 // A line so far: behind `=` a packet in hexadecimal.
 struct Line {
-    packet: [u8; 128],
+    packet: [u8; 600],
     digits: usize,
     in_packet: bool,
 }
@@ -142,7 +148,7 @@ fn value(digit: u8) -> u8
 impl Line {
     fn new(in_packet: bool) -> Line {
         Line {
-            packet: [0; 128],
+            packet: [0; 600],
             digits: 0,
             in_packet,
         }
@@ -153,7 +159,7 @@ impl Line {
         let v = value(digit);
         let i = line.digits / 2;
         if v < 16 {
-            if i < 128 {
+            if i < 600 {
                 line.packet[i] = 16 * (line.packet[i] % 16) + v;
                 line.digits += 1;
             }
@@ -236,6 +242,14 @@ fn first(units: &[u16], count: usize) -> &[u16] {
     units
 }
 
+fn first_bytes(bytes: &[u8], count: usize) -> &[u8] {
+    let place = Block {
+        start: 0,
+        len: count,
+    };
+    place.bytes(bytes)
+}
+
 // As many names of one unit, up to the first refusal.
 fn give_names(out: &mut [u8], head: Written, count: usize) -> Written {
     let mut given = head;
@@ -253,6 +267,9 @@ fn give_names(out: &mut [u8], head: Written, count: usize) -> Written {
 
 fn give(out: &mut [u8], w: Writer, kind: Kind, count: usize) -> Written {
     match kind {
+        Kind::EnterShow => w.enter_show(out, first(&[65; 256], count)),
+        Kind::PNam => w.pnam(out, first_bytes(&[65; 256], count)),
+        Kind::Fram => w.fram(out, 1, 2, 3, first_bytes(&[65; 65536], count)),
         Kind::Capa => w.capa(out, first(&[1; 65536], count)),
         Kind::LaserFeedList => {
             let head = w.laser_feed_list_head(out, 1, count);
@@ -300,6 +317,13 @@ fn write_edges() {
     // The count of points is a u16. They are not given, so the close is refused, and the size field that is read is 0.
     packet_edge(POINTS, Kind::LaserFeedFrame, 65535, 35);
     packet_edge(POINTS, Kind::LaserFeedFrame, 65536, 35);
+    // Requests, 'Names that fit the display': at most 255 units or bytes, frame_names 65,535; a longer one is 19, and 19 before 13.
+    packet_edge(SHOW_NAME, Kind::EnterShow, 255, 536);
+    packet_edge(SHOW_NAME, Kind::EnterShow, 256, 536);
+    packet_edge(PEER_NAME, Kind::PNam, 255, 280);
+    packet_edge(PEER_NAME, Kind::PNam, 256, 280);
+    packet_edge(FRAME_NAMES, Kind::Fram, 65535, 65564);
+    packet_edge(FRAME_NAMES, Kind::Fram, 65536, 65564);
 }
 
 fn main() {

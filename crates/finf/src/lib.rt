@@ -11,6 +11,7 @@ use put::Put;
 use put::cstring_size;
 use put::holds_zero;
 use put::more;
+use put::over_limit;
 use put::put_cstring;
 use put::put_u8;
 use put::put_u16;
@@ -74,7 +75,7 @@ impl SFra {
     {
         let long = u16_list_too_long(fixture_identifiers);
         let len = SFra::size_bytes(fixture_identifiers);
-        let number = weigh(false, long, at, len, out.len());
+        let number = weigh(false, false, long, at, len, out.len());
         if number != 0 {
             return Put { number, at };
         }
@@ -99,6 +100,8 @@ pub enum FramRead {
 
 impl Fram {
     pub const CONTENT_TYPE: u32 = 0x6D617246;
+    // The bytes of the longest `frame_names`.
+    pub const NAMES_LIMIT: usize = 65_535;
 
     pub fn read_from_bytes(body: &[u8]) -> FramRead
         ensures { λ r. ⌜ framSays r ≡ view fram (now (body .entry)) 0 ⌝ }
@@ -113,8 +116,9 @@ impl Fram {
         let U8Read::Read(frame_gobo_count, c) = c.u8(body) else {
             return FramRead::Refused(7);
         };
-        let CStringRead::Read(frame_names, c) = c.cstring(body) else {
-            return FramRead::Refused(8);
+        let answer = c.cstring(body, Fram::NAMES_LIMIT);
+        let CStringRead::Read(frame_names, c) = answer else {
+            return FramRead::Refused(answer.number());
         };
         FramRead::Read(
             Fram {
@@ -144,8 +148,9 @@ impl Fram {
         ensures { λ r. ⌜ (r, now (out .exit)) ≡ putAt fram («fixture_identifier», («frame_filter_count», («frame_gobo_count», now («frame_names» .entry)))) at (now (out .entry)) ⌝ }
     {
         let zeros = holds_zero(frame_names);
+        let over = over_limit(frame_names.len(), Fram::NAMES_LIMIT);
         let len = Fram::size_bytes(frame_names);
-        let number = weigh(zeros, false, at, len, out.len());
+        let number = weigh(zeros, over, false, at, len, out.len());
         if number != 0 {
             return Put { number, at };
         }

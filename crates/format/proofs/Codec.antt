@@ -1,13 +1,13 @@
 -- Writing then reading gives the value back, and reading then writing the bytes: one law, by induction over the formats.
-use Prim.Native.Nat.{ℕ, zero, suc, _+_, _*_, _/_, _%_, _^_, _<_}
+use Prim.Native.Nat.{ℕ, zero, suc, _+_, _*_, _/_, _%_, _^_, _<_, _≤_}
 use mathlib.Core.Path.{_≡_, refl, ap}
 use mathlib.Core.List.{List, [], _∷_, _++_, append-assoc, append-nil}
 use native.Mathlib.Nat.{mod-eq-of-lt}
 use native.Mathlib.Omega.{arith}
 use lib.ListN.{length}
 use lib.Dec.{ltb, eqb}
-use borrow.Author.Tests.{ltb-true, lt-ltb, eqb-true, eqb-false, ne-eqb}
-use Rattle.format.specs.Format.{Format, number, code, cstring, ucs2, list, _&_, Value, Read, got, refused, bind, pick, All, Bytes, Letter, Valid}
+use borrow.Author.Tests.{ltb-true, ltb-false, lt-ltb, le-ltb, eqb-true, eqb-false, ne-eqb}
+use Rattle.format.specs.Format.{Format, number, code, cstring, ucs2, list, _&_, Value, Read, got, refused, bind, pick, atMost, All, Bytes, Letter, Valid}
 use Rattle.format.specs.Format.{decodeNumber, decodeItems, decodeCString, decodeUcs2, decode, encodeNumber, concatMap, encode}
 use Rattle.format.proofs.Reading.{Gives, gives, fails, given, gives-map, gives-bind, gives-pick}
 
@@ -55,6 +55,15 @@ below n r c = record {
   there = λ b t h. rw (← h .0, lt-ltb b n (h .1));
   back = λ s hs. gives-pick (ltb c n) (λ e. gives ((refl, ltb-true c n e), refl)) (λ e. fails);
   clean = λ b h. tt;
+}
+
+-- a string within a limit: tested once it is read, and written as any other
+limited : {read : List ℕ → Read (List ℕ)} {write : List ℕ → List ℕ} {Fits : List ℕ → Type 0} → Codec read write Fits
+    → (m : ℕ) → Codec (λ s. bind (read s) (atMost m)) write (λ xs. (length xs ≤ m) × Fits xs)
+limited c m = record {
+  there = λ xs t h. rw (c .there xs t (h .1), le-ltb m (length xs) (h .0));
+  back = λ s hs. gives-bind (c .back s hs) λ xs t h. gives-pick (ltb m (length xs)) (λ e. fails) (λ e. gives ((ltb-false m (length xs) e, h .0), h .1));
+  clean = λ xs h. c .clean xs (h .1);
 }
 
 -- n items, each by the one codec
@@ -155,8 +164,8 @@ pub codec : (f : Format) → Codec (decode f) (encode f) (Valid f)
 unfolding decode encode encodeNumber
 codec (number w) = number-codec w
 codec (code n r) = sequel (λ c. c) (number-codec 1) (below n r)
-codec cstring = cstring-codec
-codec ucs2 = ucs2-codec
+codec (cstring m) = limited cstring-codec m
+codec (ucs2 m) = limited ucs2-codec m
 codec (list w f) = sequel length (number-codec w) (items-codec (codec f))
 codec (f & g) = sequel (λ x. x .0) (codec f) (beside (codec g))
 

@@ -1,10 +1,11 @@
--- Fields are tested in wire order: the first refusal is the answer, and a type byte is tested as soon as it is read, whatever follows.
-use Prim.Native.Nat.{ℕ, suc, _+_, _*_, _≤_}
+-- Fields are tested in wire order: the first refusal is the answer; a type byte is tested once it is read, a string once its end is found, whatever follows.
+use Prim.Native.Nat.{ℕ, suc, _+_, _*_, _≤_, _<_}
 use mathlib.Core.Path.{_≡_}
 use mathlib.Core.List.{List, _∷_}
 use native.Mathlib.Omega.{arith}
-use borrow.Author.Tests.{le-ltb}
-use Rattle.format.specs.Format.{Format, code, _&_, Value, got, refused, decodeNumber, decodeItems, decode}
+use lib.ListN.{length}
+use borrow.Author.Tests.{lt-ltb, le-ltb}
+use Rattle.format.specs.Format.{Format, code, cstring, ucs2, _&_, Value, got, refused, decodeNumber, decodeItems, decodeCString, decodeUcs2, decode}
 
 -- a field that is refused ends the reading there
 pub first-refused : (f g : Format) (s : List ℕ) (n : ℕ) → decode f s ≡ refused n → decode (f & g) s ≡ refused n
@@ -27,3 +28,20 @@ unfolding decode decodeNumber
 code-first limit refusal c s h =
     let whole : c + 256 * 0 ≡ c = omega arith in
     rw (whole, le-ltb c limit h)
+
+-- a string without an end, whatever its limit; and one longer than its limit, whatever stands behind it
+pub cstring-end-first : (limit : ℕ) (s : List ℕ) (n : ℕ) → decodeCString s ≡ refused n → decode (cstring limit) s ≡ refused n
+unfolding decode
+cstring-end-first limit s n e = rw e
+
+pub cstring-then-limit : (limit : ℕ) (s xs t : List ℕ) → decodeCString s ≡ got xs t → limit < length xs → decode (cstring limit) s ≡ refused 19
+unfolding decode
+cstring-then-limit limit s xs t e h = rw (e, lt-ltb limit (length xs) h)
+
+pub ucs2-end-first : (limit : ℕ) (s : List ℕ) (n : ℕ) → decodeUcs2 s ≡ refused n → decode (ucs2 limit) s ≡ refused n
+unfolding decode
+ucs2-end-first limit s n e = rw e
+
+pub ucs2-then-limit : (limit : ℕ) (s xs t : List ℕ) → decodeUcs2 s ≡ got xs t → limit < length xs → decode (ucs2 limit) s ≡ refused 19
+unfolding decode
+ucs2-then-limit limit s xs t e h = rw (e, lt-ltb limit (length xs) h)

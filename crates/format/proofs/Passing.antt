@@ -120,16 +120,16 @@ module _ (f : Format) (s : List ℕ) (at : ℕ) where
 abbrev pub Plain : Format → Type 0
 Plain (number w) = Unit {0}
 Plain (code n r) = ⊥
-Plain cstring = ⊥
-Plain ucs2 = ⊥
+Plain (cstring m) = ⊥
+Plain (ucs2 m) = ⊥
 Plain (list w f) = ⊥
 Plain (f & g) = Plain f × Plain g
 
 pub plain-fixed : (f : Format) → Plain f → Fixed f
 plain-fixed (number w) p = tt
 plain-fixed (code n r) p = absurd p
-plain-fixed cstring p = absurd p
-plain-fixed ucs2 p = absurd p
+plain-fixed (cstring m) p = absurd p
+plain-fixed (ucs2 m) p = absurd p
 plain-fixed (list w f) p = absurd p
 plain-fixed (f & g) p = (plain-fixed f (p .0), plain-fixed g (p .1))
 
@@ -168,8 +168,8 @@ pub plain-there : (f : Format) → Plain f → (s : List ℕ) → width f ≤ le
 unfolding decode
 plain-there (number w) p s h = number-there w s h
 plain-there (code n r) p s h = absurd p
-plain-there cstring p s h = absurd p
-plain-there ucs2 p s h = absurd p
+plain-there (cstring m) p s h = absurd p
+plain-there (ucs2 m) p s h = absurd p
 plain-there (list w f) p s h = absurd p
 plain-there (f & g) p s h =
     let a = plain-there f (p .0) s (omega arith) in
@@ -183,8 +183,8 @@ pub plain-short : (f : Format) → Plain f → (s : List ℕ) → length s < wid
 unfolding decode
 plain-short (number w) p s h = number-short w s h
 plain-short (code n r) p s h = absurd p
-plain-short cstring p s h = absurd p
-plain-short ucs2 p s h = absurd p
+plain-short (cstring m) p s h = absurd p
+plain-short (ucs2 m) p s h = absurd p
 plain-short (list w f) p s h = absurd p
 plain-short (f & g) p s h = by (leb (width f) (length s)) refl (plain-short f (p .0) s) (plain-short g (p .1) (drop (width f) s))
   where

@@ -1,23 +1,16 @@
--- The numbers with which a body can be refused: 7, 8 and those of the type bytes in its format.
-use Prim.Native.Nat.{ℕ, zero, suc, _+_, _*_, _≤_}
-use mathlib.Core.Path.{_≡_}
-use mathlib.Core.Bool.{Bool, true, false, _&&_}
+-- A body is refused with a number of its format's list.
+use Prim.Native.Nat.{ℕ, zero, suc, _+_, _*_}
+use mathlib.Core.Path.{_≡_, refl}
+use mathlib.Core.Bool.{Bool, true, false, _||_}
 use mathlib.Core.List.{List, [], _∷_}
-use native.Mathlib.Omega.{arith}
-use lib.Dec.{ltb, leb, eqb}
-use borrow.Author.Tests.{leb-true}
-use Rattle.format.proofs.Bools.{both}
-use Rattle.format.specs.Format.{Format, number, code, cstring, ucs2, list, _&_, Read, got, refused, bind, pick}
-use Rattle.format.specs.Format.{decodeNumber, decodeItems, decodeCString, decodeUcs2, decode}
-
--- the format's type bytes are refused with 7 to a highest number
-abbrev pub codesWithin : ℕ → Format → Bool
-codesWithin most (number w) = true
-codesWithin most (code n r) = leb 7 r && leb r most
-codesWithin most cstring = true
-codesWithin most ucs2 = true
-codesWithin most (list w f) = codesWithin most f
-codesWithin most (f & g) = codesWithin most f && codesWithin most g
+use lib.ListN.{length}
+use lib.Dec.{ltb, eqb}
+use borrow.Author.Tests.{eq-eqb}
+use Rattle.format.specs.Format.{Format, number, code, cstring, ucs2, list, _&_, Read, got, refused, bind, pick, atMost}
+use Rattle.format.specs.Format.{decodeNumber, decodeItems, decodeCString, decodeUcs2, decode, All}
+use Rattle.format.specs.Fault.{any}
+use Rattle.format.specs.Refusals.{refusals, isOneOf}
+use Rattle.format.proofs.Lists.{all-front, all-behind, all-weaken}
 
 -- if it was refused, then with such a number
 pub data Refuses {A : Type 0} (P : ℕ → Type 0) : Read A → Type 0 where
@@ -52,6 +45,10 @@ module _ (P : ℕ → Type 0) (eight : P 8) where
   ucs2-refuses (b ∷ []) = refuses eight
   ucs2-refuses (b ∷ c ∷ s) = refuses-pick (eqb (b + 256 * c) 0) reads (refuses-bind (ucs2-refuses s) λ xs t. reads)
 
+-- within a limit also with 19
+pub at-most-refuses : (P : ℕ → Type 0) → P 19 → (m : ℕ) {r : Read (List ℕ)} → Refuses P r → Refuses P (bind r (atMost m))
+at-most-refuses P nineteen m h = refuses-bind h λ xs t. refuses-pick (ltb m (length xs)) (refuses nineteen) reads
+
 -- a number with 7
 pub number-refuses : (P : ℕ → Type 0) → P 7 → (w : ℕ) (s : List ℕ) → Refuses P (decodeNumber w s)
 unfolding decodeNumber
@@ -64,18 +61,30 @@ unfolding decodeItems
 items-refuse P read h zero s = reads
 items-refuse P read h (suc n) s = refuses-bind (h s) λ a t. refuses-bind (items-refuse P read h n t) λ xs u. reads
 
-pub decode-refuses : (most : ℕ) → 8 ≤ most → (f : Format) → codesWithin most f ≡ true → (s : List ℕ) → Refuses (λ n. (7 ≤ n) × (n ≤ most)) (decode f s)
+-- what holds of every number in the format's list holds of the number of the refusal
+pub decode-refuses : (P : ℕ → Type 0) (f : Format) → All P (refusals f) → (s : List ℕ) → Refuses P (decode f s)
 unfolding decode
-decode-refuses most l (number w) e s = number-refuses (λ n. (7 ≤ n) × (n ≤ most)) (omega arith) w s
-decode-refuses most l (code n r) e s =
-    let b = both (leb 7 r) (leb r most) e in
-    refuses-bind (number-refuses (λ n. (7 ≤ n) × (n ≤ most)) (omega arith) 1 s) λ c t.
-    refuses-pick (ltb c n) reads (refuses (leb-true 7 r (b .0), leb-true r most (b .1)))
-decode-refuses most l cstring e s = cstring-refuses (λ n. (7 ≤ n) × (n ≤ most)) (omega arith) s
-decode-refuses most l ucs2 e s = ucs2-refuses (λ n. (7 ≤ n) × (n ≤ most)) (omega arith) s
-decode-refuses most l (list w f) e s =
-    refuses-bind (number-refuses (λ n. (7 ≤ n) × (n ≤ most)) (omega arith) w s) λ n t.
-    items-refuse (λ n. (7 ≤ n) × (n ≤ most)) (decode f) (decode-refuses most l f e) n t
-decode-refuses most l (f & g) e s =
-    let b = both (codesWithin most f) (codesWithin most g) e in
-    refuses-bind (decode-refuses most l f (b .0) s) λ a t. refuses-bind (decode-refuses most l g (b .1) t) λ c u. reads
+decode-refuses P (number w) h s = number-refuses P (h .0) w s
+decode-refuses P (code n r) h s = refuses-bind (number-refuses P (h .0) 1 s) λ c t. refuses-pick (ltb c n) reads (refuses (h .1 .0))
+decode-refuses P (cstring m) h s = at-most-refuses P (h .1 .0) m (cstring-refuses P (h .0) s)
+decode-refuses P (ucs2 m) h s = at-most-refuses P (h .1 .0) m (ucs2-refuses P (h .0) s)
+decode-refuses P (list w f) h s = refuses-bind (number-refuses P (h .0) w s) λ n t. items-refuse P (decode f) (decode-refuses P f (h .1)) n t
+decode-refuses P (f & g) h s =
+    refuses-bind (decode-refuses P f (all-front P (refusals f) (refusals g) h) s) λ a t.
+    refuses-bind (decode-refuses P g (all-behind P (refusals f) (refusals g) h) t) λ c u. reads
+
+-- so it is one of the list
+or-right : (a : Bool) {b : Bool} → b ≡ true → (a || b) ≡ true
+or-right true h = refl
+or-right false h = h
+
+each-one-of : (l : List ℕ) → All (λ n. isOneOf l n ≡ true) l
+unfolding any
+each-one-of [] = tt
+each-one-of (x ∷ l) = (
+  rw (eq-eqb x x refl) refl,
+  all-weaken (λ n. isOneOf l n ≡ true) (λ n. isOneOf (x ∷ l) n ≡ true) (λ n h. or-right (eqb n x) h) l (each-one-of l),
+)
+
+pub decode-number : (f : Format) (s : List ℕ) → Refuses (λ n. isOneOf (refusals f) n ≡ true) (decode f s)
+decode-number f s = decode-refuses (λ n. isOneOf (refusals f) n ≡ true) f (each-one-of (refusals f)) s

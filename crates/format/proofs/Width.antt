@@ -9,7 +9,7 @@ use lib.Seq.{drop-drop}
 use lib.Dec.{ltb, eqb}
 use Rattle.format.specs.Format.{Format, number, code, cstring, ucs2, list, _&_, Value, Read, got}
 use Rattle.format.specs.Format.{decodeNumber, decodeItems, decodeCString, decodeUcs2, decode, encodeNumber, concatMap, encode, total, size}
-use Rattle.format.proofs.Reading.{Gives, gives, fails, given, gives-self, gives-map, gives-bind, gives-pick}
+use Rattle.format.proofs.Reading.{Gives, gives, fails, given, gives-self, gives-map, gives-bind, gives-pick, at-most-gives}
 
 -- ---- the size of a value
 
@@ -33,8 +33,8 @@ pub size-is-length : (f : Format) (v : Value f) → size f v ≡ length (encode 
 unfolding size encode
 size-is-length (number w) n = sym (length-number w n)
 size-is-length (code n r) c = sym (length-number 1 c)
-size-is-length cstring xs = sym (length-append xs (0 ∷ []))
-size-is-length ucs2 xs = rw (length-append, length-ucs2)
+size-is-length (cstring m) xs = sym (length-append xs (0 ∷ []))
+size-is-length (ucs2 m) xs = rw (length-append, length-ucs2)
 size-is-length (list w f) xs = rw (length-append, length-number, length-concatMap (encode f) (size-is-length f) xs)
 size-is-length (f & g) x = rw (length-append, size-is-length f (x .0), size-is-length g (x .1))
 
@@ -63,14 +63,14 @@ number-behind zero s = gives behind-none
 number-behind (suc w) [] = fails
 number-behind (suc w) (b ∷ s) = gives-bind (number-behind w s) λ n t h. gives (behind-cons h)
 
-cstring-behind : (s : List ℕ) → Gives (λ xs t. Behind (length xs + 1) s t) (decodeCString s)
+pub cstring-behind : (s : List ℕ) → Gives (λ xs t. Behind (length xs + 1) s t) (decodeCString s)
 unfolding decodeCString
 cstring-behind [] = fails
 cstring-behind (b ∷ s) = gives-pick (eqb b 0)
     (λ e. gives {a = []} (behind-cons behind-none))
     λ e. gives-bind (cstring-behind s) λ xs t h. gives {a = b ∷ xs} {t = t} (rw suc-add (behind-cons h))
 
-ucs2-behind : (s : List ℕ) → Gives (λ xs t. Behind (length xs * 2 + 2) s t) (decodeUcs2 s)
+pub ucs2-behind : (s : List ℕ) → Gives (λ xs t. Behind (length xs * 2 + 2) s t) (decodeUcs2 s)
 unfolding decodeUcs2
 ucs2-behind [] = fails
 ucs2-behind (b ∷ []) = fails
@@ -96,8 +96,8 @@ pub decode-behind : (f : Format) (s : List ℕ) → Gives (λ v t. Behind (size 
 unfolding decode size
 decode-behind (number w) s = number-behind w s
 decode-behind (code n r) s = gives-bind (number-behind 1 s) λ c t h. gives-pick (ltb c n) (λ _. gives h) (λ _. fails)
-decode-behind cstring s = cstring-behind s
-decode-behind ucs2 s = ucs2-behind s
+decode-behind (cstring m) s = at-most-gives m (cstring-behind s)
+decode-behind (ucs2 m) s = at-most-gives m (ucs2-behind s)
 decode-behind (list w f) s = gives-bind (number-behind w s) λ n t h. gives-map (items-behind (decode-behind f) n t) λ xs u h′. behind-more h h′
 decode-behind (f & g) s = gives-bind (decode-behind f s) λ a t h. gives-bind (decode-behind g t) λ b u h′. gives (behind-more h h′)
 
@@ -110,8 +110,8 @@ rest-is-drop f s {v} e = rw (← size-is-length f v) (given (decode-behind f s) 
 abbrev pub bare : (f : Format) → Value f
 bare (number w) = 0
 bare (code n r) = 0
-bare cstring = []
-bare ucs2 = []
+bare (cstring m) = []
+bare (ucs2 m) = []
 bare (list w f) = []
 bare (f & g) = (bare f, bare g)
 
@@ -119,8 +119,8 @@ pub bare-smallest : (f : Format) (v : Value f) → size f (bare f) ≤ size f v
 unfolding size total
 bare-smallest (number w) v = omega arith
 bare-smallest (code n r) v = omega arith
-bare-smallest cstring v = omega arith
-bare-smallest ucs2 v = omega arith
+bare-smallest (cstring m) v = omega arith
+bare-smallest (ucs2 m) v = omega arith
 bare-smallest (list w f) v = omega arith
 bare-smallest (f & g) v = omega (arith, bare-smallest f (v .0), bare-smallest g (v .1))
 
@@ -129,8 +129,8 @@ bare-smallest (f & g) v = omega (arith, bare-smallest f (v .0), bare-smallest g 
 abbrev pub Fixed : Format → Type 0
 Fixed (number w) = Unit {0}
 Fixed (code n r) = Unit {0}
-Fixed cstring = ⊥
-Fixed ucs2 = ⊥
+Fixed (cstring m) = ⊥
+Fixed (ucs2 m) = ⊥
 Fixed (list w f) = ⊥
 Fixed (f & g) = Fixed f × Fixed g
 
@@ -138,8 +138,8 @@ Fixed (f & g) = Fixed f × Fixed g
 abbrev pub width : Format → ℕ
 width (number w) = w
 width (code n r) = 1
-width cstring = 0
-width ucs2 = 0
+width (cstring m) = 0
+width (ucs2 m) = 0
 width (list w f) = 0
 width (f & g) = width f + width g
 
@@ -147,8 +147,8 @@ pub size-is-width : (f : Format) → Fixed f → (v : Value f) → size f v ≡ 
 unfolding size
 size-is-width (number w) h v = refl
 size-is-width (code n r) h v = refl
-size-is-width cstring h v = absurd h
-size-is-width ucs2 h v = absurd h
+size-is-width (cstring m) h v = absurd h
+size-is-width (ucs2 m) h v = absurd h
 size-is-width (list w f) h v = absurd h
 size-is-width (f & g) h v = rw (size-is-width f (h .0) (v .0), size-is-width g (h .1) (v .1))
 

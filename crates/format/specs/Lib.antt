@@ -4,3 +4,4 @@ pub mod Passed
 pub mod Walk
 pub mod Fault
 pub mod Copy
+pub mod Refusals

@@ -12,6 +12,7 @@ use put::cstring_size;
 use put::either;
 use put::holds_zero;
 use put::more;
+use put::over_limit;
 use put::put_cstring;
 use put::put_u8;
 use put::put_u16;
@@ -22,6 +23,7 @@ use put::weigh;
 use wire::CString;
 use wire::CStringRead;
 use wire::Cursor;
+use wire::NAME_LIMIT;
 use wire::U8Read;
 use wire::U16List;
 use wire::U16ListRead;
@@ -79,11 +81,13 @@ impl Ptch {
         let U16Read::Read(channel_count, c) = c.u16(body) else {
             return PtchRead::Refused(7);
         };
-        let CStringRead::Read(fixture_make, c) = c.cstring(body) else {
-            return PtchRead::Refused(8);
+        let answer = c.cstring(body, NAME_LIMIT);
+        let CStringRead::Read(fixture_make, c) = answer else {
+            return PtchRead::Refused(answer.number());
         };
-        let CStringRead::Read(fixture_name, c) = c.cstring(body) else {
-            return PtchRead::Refused(8);
+        let answer = c.cstring(body, NAME_LIMIT);
+        let CStringRead::Read(fixture_name, c) = answer else {
+            return PtchRead::Refused(answer.number());
         };
         PtchRead::Read(
             Ptch {
@@ -144,8 +148,12 @@ impl Ptch {
         ensures { λ r. ⌜ (r, now (out .exit)) ≡ putAt ptch («fixture_identifier», (universe, (reserved, (channel, («channel_count», (now («fixture_make» .entry), now («fixture_name» .entry))))))) at (now (out .entry)) ⌝ }
     {
         let zeros = either(holds_zero(fixture_make), holds_zero(fixture_name));
+        let over = either(
+            over_limit(fixture_make.len(), NAME_LIMIT),
+            over_limit(fixture_name.len(), NAME_LIMIT),
+        );
         let len = Ptch::size_bytes(fixture_make, fixture_name);
-        let number = weigh(zeros, false, at, len, out.len());
+        let number = weigh(zeros, over, false, at, len, out.len());
         if number != 0 {
             return Put { number, at };
         }
@@ -203,7 +211,7 @@ impl UPtc {
     {
         let long = u16_list_too_long(fixture_identifiers);
         let len = UPtc::size_bytes(fixture_identifiers);
-        let number = weigh(false, long, at, len, out.len());
+        let number = weigh(false, false, long, at, len, out.len());
         if number != 0 {
             return Put { number, at };
         }
@@ -251,7 +259,7 @@ impl SPtc {
     {
         let long = u16_list_too_long(fixture_identifiers);
         let len = SPtc::size_bytes(fixture_identifiers);
-        let number = weigh(false, long, at, len, out.len());
+        let number = weigh(false, false, long, at, len, out.len());
         if number != 0 {
             return Put { number, at };
         }

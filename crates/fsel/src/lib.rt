@@ -85,7 +85,7 @@ impl Sele {
     {
         let long = u16_list_too_long(fixture_identifiers);
         let len = Sele::size_bytes(fixture_identifiers);
-        let number = weigh(false, long, at, len, out.len());
+        let number = weigh(false, false, long, at, len, out.len());
         if number != 0 {
             return Put { number, at };
         }
@@ -135,7 +135,7 @@ impl DeSe {
     {
         let long = u16_list_too_long(fixture_identifiers);
         let len = DeSe::size_bytes(fixture_identifiers);
-        let number = weigh(false, long, at, len, out.len());
+        let number = weigh(false, false, long, at, len, out.len());
         if number != 0 {
             return Put { number, at };
         }

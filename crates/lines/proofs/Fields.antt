@@ -26,17 +26,15 @@ module _ {name : Name} {s o o′ : List ℕ} {p r : ℕ} where
   unfolding lines
   lists-type e a = record { puts = rw e at a }
 
-  pub lists-bytes : {from : ℕ} {x : ℕ × ℕ} {t : List ℕ} → t ≡ rangeOf s x → Prints from (line name (escaped t)) p o r o′ → Lists from (bytes name) s x p o r o′
+  -- whatever the limit
+  pub lists-bytes : {from m : ℕ} {x : ℕ × ℕ} → Prints from (line name (escaped (rangeOf s x))) p o r o′ → Lists from (bytes {m = m} name) s x p o r o′
   unfolding lines
-  lists-bytes e a = record { puts = rw e at a }
+  lists-bytes a = record { puts = a }
 
-  -- a body's length is enough to reach its end
-  pub lists-units : {from : ℕ} {x : ℕ × ℕ} {t : List ℕ} → t ≡ take (length s) (drop (x .0) s) → Prints from (line name (escaped (unitsOf (x .1) t))) p o r o′
-      → Lists from (units name) s x p o r o′
+  pub lists-units : {from m : ℕ} {x : ℕ × ℕ} → Prints from (line name (escaped (unitsOf (x .1) (drop (x .0) s)))) p o r o′
+      → Lists from (units {m = m} name) s x p o r o′
   unfolding lines
-  lists-units {x = x} e a =
-      let h : length (drop (x .0) s) ≤ length s = omega (arith, length-drop (x .0) s) in
-      record { puts = rw (e, take-all (length s) (drop (x .0) s) h) at a }
+  lists-units a = record { puts = a }
 
 module _ {count : Name} {s o o₁ o₂ : List ℕ} {p q r : ℕ} where
   pub lists-each : {from : ℕ} {w at left : ℕ} {f : Format} {l : Listed f} → Prints from (line count (text.decimal left)) p o q o₁ → Prints from (itemLines l s at left) q o₁ r o₂
@@ -71,4 +69,44 @@ module _ {name : Name} {g : Format} {b : Listed g} {w : View g} {s o o₁ o₂ :
       → Lists from (type {n = n} {r = k} name and b) s (c, w) p o r o₂
   lists-type-and e a b = lists-and (lists-type e a) b
 
-pub ruleset fields = (refl, lists-decimal, lists-bits, lists-type, lists-bytes, lists-units, lists-each, lists-block, lists-digits, lists-and, lists-decimal-and, lists-bits-and, lists-type-and)
+module _ {name : Name} {g : Format} {b : Listed g} {w : View g} {s o o₁ o₂ : List ℕ} {p q r : ℕ} {from m : ℕ} {x : ℕ × ℕ} where
+  pub lists-bytes-and : Prints from (line name (escaped (rangeOf s x))) p o q o₁ → Lists from b s w q o₁ r o₂
+      → Lists from (bytes {m = m} name and b) s (x, w) p o r o₂
+  lists-bytes-and a b = lists-and (lists-bytes a) b
+
+  pub lists-units-and : Prints from (line name (escaped (unitsOf (x .1) (drop (x .0) s)))) p o q o₁ → Lists from b s w q o₁ r o₂
+      → Lists from (units {m = m} name and b) s (x, w) p o r o₂
+  lists-units-and a b = lists-and (lists-units a) b
+
+-- a string's own line
+pub prints-bytes : (name s o o′ t : List ℕ) (p r from start n : ℕ) → t ≡ take n (drop start s) → Prints from (line name (escaped t)) p o r o′
+    → Prints from (line name (escaped (take n (drop start s)))) p o r o′
+prints-bytes name s o o′ t p r from start n e a = rw e at a
+
+-- a body's length is enough to reach its end
+pub prints-units : (name s o o′ t : List ℕ) (p r from start n : ℕ)
+    → t ≡ take (length s) (drop start s) → Prints from (line name (escaped (unitsOf n t))) p o r o′
+    → Prints from (line name (escaped (unitsOf n (drop start s)))) p o r o′
+prints-units name s o o′ t p r from start n e a =
+    let h : length (drop start s) ≤ length s = omega (arith, length-drop start s) in
+    rw (e, take-all (length s) (drop start s) h) at a
+
+pub ruleset strings = (refl, prints-bytes, prints-units)
+
+pub ruleset fields = (
+  refl,
+  lists-decimal,
+  lists-bits,
+  lists-type,
+  lists-bytes,
+  lists-units,
+  lists-each,
+  lists-block,
+  lists-digits,
+  lists-and,
+  lists-decimal-and,
+  lists-bits-and,
+  lists-type-and,
+  lists-bytes-and,
+  lists-units-and,
+)

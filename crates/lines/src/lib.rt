@@ -1,8 +1,11 @@
 // The lines of a field, put at a place of a listing. Lent output holds it from a character on, as far as it reaches;
 // each function answers the place behind its text, or the output's end.
+ghost use lib.ListN.{drop};
 ghost use Rattle.text.specs.Prints.{Prints};
+ghost use Rattle.text.specs.Text.{escaped, line};
 ghost use Rattle.format.specs.Format.{concatMap};
-ghost use Rattle.lines.specs.Lines.{decimal, bytes, units, each, block, digits, decimalLine, itemLines, Lists};
+ghost use Rattle.format.specs.View.{unitsOf};
+ghost use Rattle.lines.specs.Lines.{decimal, each, block, digits, decimalLine, rangeOf, itemLines, Lists};
 use text::put_decimal_line;
 use text::put_escaped_line;
 use text::put_escaped_units_line;
@@ -25,13 +28,15 @@ pub fn put_cstring(
     x: CString,
     body: &[u8],
 ) -> usize
-    ensures { λ r. ⌜ Lists from (bytes (now (name .entry))) (now (body .entry)) (x .start, x .len) at (now (out .entry)) r (now (out .exit)) ⌝ }
+    ensures { λ r. ⌜ Prints from (line (now (name .entry)) (escaped (rangeOf (now (body .entry)) (x .start, x .len))))
+        at (now (out .entry)) r (now (out .exit)) ⌝ }
 {
     put_escaped_line(out, from, at, name, x.bytes(body))
 }
 
 pub fn put_ucs2(out: &mut [u8], from: u32, at: usize, name: &[u8], x: Ucs2, body: &[u8]) -> usize
-    ensures { λ r. ⌜ Lists from (units (now (name .entry))) (now (body .entry)) (x .start, x .len) at (now (out .entry)) r (now (out .exit)) ⌝ }
+    ensures { λ r. ⌜ Prints from (line (now (name .entry)) (escaped (unitsOf (x .len) (drop (x .start) (now (body .entry))))))
+        at (now (out .entry)) r (now (out .exit)) ⌝ }
 {
     let rest = Block {
         start: x.start,

@@ -127,7 +127,8 @@ fn put_universe(
     x: CString,
     body: &[u8],
 ) -> usize
-    ensures { λ r. ⌜ Lists from (names.numberOf {w = 1} "universe_index" and bytes (now (name .entry))) (now (body .entry)) («universe_index», (x .start, x .len)) at (now (out .entry)) r (now (out .exit)) ⌝ }
+    ensures { λ r. ⌜ Lists from (names.numberOf {w = 1} "universe_index" and bytes {m = 255} (now (name .entry))) (now (body .entry))
+        («universe_index», (x .start, x .len)) at (now (out .entry)) r (now (out .exit)) ⌝ }
 {
     let at = put_decimal_line(out, from, at, b"universe_index", universe_index as usize);
     put_cstring(out, from, at, name, x, body)

@@ -4,7 +4,8 @@ use Prim.Native.String.{String}
 use mathlib.Core.List.{_++_}
 use Rattle.format.specs.Format.{Format, number, code, cstring, ucs2, list, _&_}
 use Rattle.protocol.specs.Kind as kind
-use Rattle.protocol.specs.Kind.{Kind, bodyOf, identifierFormat, fixtureDataFormat, fixtureFormat, channelLevelFormat, laserPointFormat}
+use Rattle.protocol.specs.Kind.{Kind, bodyOf}
+use Rattle.protocol.specs.Kind.{identifierFormat, fixtureDataFormat, fixtureFormat, channelLevelFormat, feedNameFormat, laserPointFormat}
 use Rattle.text.specs.Text.{chars}
 use Rattle.lines.specs.Lines.{Listed, decimal, bits, type, bytes, units, each, block, digits, _and_}
 
@@ -19,10 +20,10 @@ floatOf name = bits (chars name)
 abbrev pub typeOf : {n r : ℕ} → String → Listed (code n r)
 typeOf name = type (chars name)
 
-abbrev pub cstringOf : String → Listed cstring
+abbrev pub cstringOf : {m : ℕ} → String → Listed (cstring m)
 cstringOf name = bytes (chars name)
 
-abbrev pub ucs2Of : String → Listed ucs2
+abbrev pub ucs2Of : {m : ℕ} → String → Listed (ucs2 m)
 ucs2Of name = units (chars name)
 
 -- a list under the name of its count field; its items have names of their own
@@ -48,10 +49,10 @@ identifier = typeOf "identifier_type" and digits (chars "data_size") (chars "dat
 abbrev pub floats : Listed (number 4 & number 4 & number 4 & number 4 & number 4 & number 4)
 floats = floatOf "position" and floatOf "position" and floatOf "position" and floatOf "angles" and floatOf "angles" and floatOf "angles"
 
-abbrev pub fromCircuit : Listed (ucs2 & ucs2 & number 4 & number 4 & number 4 & number 4 & number 4 & number 4)
+abbrev pub fromCircuit : Listed (ucs2 255 & ucs2 255 & number 4 & number 4 & number 4 & number 4 & number 4 & number 4)
 fromCircuit = ucs2Of "circuit" and ucs2Of "note" and floats
 
-abbrev pub fromUnit : Listed (ucs2 & number 2 & ucs2 & ucs2 & number 4 & number 4 & number 4 & number 4 & number 4 & number 4)
+abbrev pub fromUnit : Listed (ucs2 255 & number 2 & ucs2 255 & ucs2 255 & number 4 & number 4 & number 4 & number 4 & number 4 & number 4)
 fromUnit = ucs2Of "unit" and numberOf "channel" and fromCircuit
 
 abbrev pub fixtureData : Listed fixtureDataFormat
@@ -60,7 +61,7 @@ fixtureData = numberOf "patched" and numberOf "universe" and numberOf "universe_
 abbrev pub fromIdentifiers : Listed (list 1 identifierFormat & fixtureDataFormat)
 fromIdentifiers = listOf "identifier_count" identifier and fixtureData
 
-abbrev pub fromMode : Listed (ucs2 & number 2 & number 1 & list 1 identifierFormat & fixtureDataFormat)
+abbrev pub fromMode : Listed (ucs2 255 & number 2 & number 1 & list 1 identifierFormat & fixtureDataFormat)
 fromMode = ucs2Of "mode_name" and numberOf "channel_count" and numberOf "is_dimmer" and fromIdentifiers
 
 abbrev pub fixture : Listed fixtureFormat
@@ -69,10 +70,13 @@ fixture = numberOf "fixture_identifier" and ucs2Of "manufacturer_name" and ucs2O
 abbrev pub channelLevel : Listed channelLevelFormat
 channelLevel = numberOf "universe_index" and numberOf "channel" and numberOf "channel_level"
 
+abbrev pub feedName : Listed feedNameFormat
+feedName = ucs2Of "feed_names"
+
 abbrev pub laserPoint : Listed laserPointFormat
 laserPoint = numberOf "x_low_byte" and numberOf "y_low_byte" and numberOf "xy_high_nibbles" and numberOf "color"
 
-abbrev pub patchChannels : Listed (number 2 & number 2 & cstring & cstring)
+abbrev pub patchChannels : Listed (number 2 & number 2 & cstring 255 & cstring 255)
 patchChannels = numberOf "channel" and numberOf "channel_count" and cstringOf "fixture_make" and cstringOf "fixture_name"
 
 -- ---- kinds
@@ -105,7 +109,7 @@ rows kind.Fram = named "Fram"
     (numberOf "fixture_identifier" and numberOf "frame_filter_count" and numberOf "frame_gobo_count" and cstringOf "frame_names")
 rows kind.PNam = named "PNam" (cstringOf "name")
 rows kind.PLoc = named "PLoc" (numberOf "listening_tcp_port" and cstringOf "kind" and cstringOf "name" and cstringOf "state")
-rows kind.LaserFeedList = named "LaserFeedList" (numberOf "source_key" and listOf "feed_count" (ucs2Of "feed_names"))
+rows kind.LaserFeedList = named "LaserFeedList" (numberOf "source_key" and listOf "feed_count" feedName)
 rows kind.LaserFeedFrame = named "LaserFeedFrame"
     (numberOf "source_key" and numberOf "feed_index" and numberOf "frame_sequence" and listOf "point_count" laserPoint)
 

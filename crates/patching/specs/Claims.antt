@@ -8,6 +8,8 @@ use mathlib.Core.Option.{Option, none, some}
 use lib.ListN.{length}
 use lib.Dec.{eqb}
 use Rattle.format.specs.Format.{pick, All, Bytes}
+use Rattle.format.specs.Refusals.{refusals, isOneOf}
+use Rattle.protocol.specs.Kind.{bodyOf, Ptch, UPtc}
 use Rattle.patching.specs.Entry.{Entry, universe, channelCount, Fields, fields, Key, key, sameKey, same, holds}
 use Rattle.patching.specs.Book.{Message, ptch, uptc, Change, patch, unpatch, unread, change, drops, misfits}
 use Rattle.patching.specs.Book.{held, answer, takenAt, takenIn, freeIn}
@@ -83,11 +85,16 @@ PatchBook = (count : ℕ) (ws : List Entry) → held count ws ≡ [] → (ms : L
 
 -- ---- demand 1
 
--- the numbers of a change: a patch is taken or refused with 16 to 18, an unpatch is taken, a body that does not read is refused with 7 or 8
-abbrev pub Numbered : Change → ℕ → Type 0
-Numbered (patch f) n = (n ≡ 0) ⊎ ((16 ≤ n) × (n ≤ 18))
-Numbered (unpatch ids) n = n ≡ 0
-Numbered (unread m) n = (n ≡ m) × (7 ≤ n) × (n ≤ 8)
+-- the numbers with which a message's body is refused where it does not read: of a Ptch 7, 8 and 19, of a UPtc 7
+abbrev pub bodyRefusals : Message → List ℕ
+bodyRefusals (ptch s) = refusals (bodyOf Ptch)
+bodyRefusals (uptc s) = refusals (bodyOf UPtc)
+
+-- the numbers of a change: a patch is taken or refused with 16 to 18, an unpatch taken, a body that does not read refused with its own
+abbrev pub Numbered : Message → Change → ℕ → Type 0
+Numbered m (patch f) n = (n ≡ 0) ⊎ ((16 ≤ n) × (n ≤ 18))
+Numbered m (unpatch ids) n = n ≡ 0
+Numbered m (unread k) n = (n ≡ k) × (isOneOf (bodyRefusals m) n ≡ true)
 
 -- an answer leaves the count and the words lent as they were
 abbrev pub Kept : ℕ → List Entry → ℕ × ℕ × List Entry → Type 0
@@ -96,5 +103,5 @@ Kept count ws r = (r .1 ≡ count) × (r .2 ≡ ws)
 -- book-numbers (Numbers): each message has its number, and one that is refused changes nothing
 abbrev pub BookNumbers : Type 0
 BookNumbers = (m : Message) (count : ℕ) (ws : List Entry)
-    → Numbered (change m) (answer (change m) count ws .0)
+    → Numbered m (change m) (answer (change m) count ws .0)
     × ((answer (change m) count ws .0 ≡ 0) ⊎ Kept count ws (answer (change m) count ws))

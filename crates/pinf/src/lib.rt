@@ -5,19 +5,21 @@ ghost use Rattle.format.specs.Format.{size};
 ghost use Rattle.format.specs.View.{view};
 ghost use Rattle.protocol.specs.Layer.{PINF};
 ghost use Rattle.protocol.specs.Step.{readBody};
-ghost use Rattle.put.specs.Put.{capped, putAt};
+ghost use Rattle.put.specs.Put.{Writes, capped, putAt};
 ghost use Rattle.pinf.specs.Says.{pnam, ploc, pnamSays, plocSays, messageSays};
 use put::Put;
 use put::cstring_size;
 use put::either;
 use put::holds_zero;
 use put::more;
+use put::over_limit;
 use put::put_cstring;
 use put::put_u16;
 use put::weigh;
 use wire::CString;
 use wire::CStringRead;
 use wire::Cursor;
+use wire::NAME_LIMIT;
 use wire::U16Read;
 
 // The old port originally used for broadcast.
@@ -58,8 +60,9 @@ impl PNam {
         ensures { λ r. ⌜ pnamSays r ≡ view pnam (now (body .entry)) 0 ⌝ }
     {
         let c = Cursor { at: 0 };
-        let CStringRead::Read(name, c) = c.cstring(body) else {
-            return PNamRead::Refused(8);
+        let answer = c.cstring(body, NAME_LIMIT);
+        let CStringRead::Read(name, c) = answer else {
+            return PNamRead::Refused(answer.number());
         };
         PNamRead::Read(PNam { name }, c)
     }
@@ -74,8 +77,9 @@ impl PNam {
         ensures { λ r. ⌜ (r, now (out .exit)) ≡ putAt pnam (now (name .entry)) at (now (out .entry)) ⌝ }
     {
         let zeros = holds_zero(name);
+        let over = over_limit(name.len(), NAME_LIMIT);
         let len = PNam::size_bytes(name);
-        let number = weigh(zeros, false, at, len, out.len());
+        let number = weigh(zeros, over, false, at, len, out.len());
         if number != 0 {
             return Put { number, at };
         }
@@ -110,14 +114,17 @@ impl PLoc {
         let U16Read::Read(listening_tcp_port, c) = c.u16(body) else {
             return PLocRead::Refused(7);
         };
-        let CStringRead::Read(kind, c) = c.cstring(body) else {
-            return PLocRead::Refused(8);
+        let answer = c.cstring(body, NAME_LIMIT);
+        let CStringRead::Read(kind, c) = answer else {
+            return PLocRead::Refused(answer.number());
         };
-        let CStringRead::Read(name, c) = c.cstring(body) else {
-            return PLocRead::Refused(8);
+        let answer = c.cstring(body, NAME_LIMIT);
+        let CStringRead::Read(name, c) = answer else {
+            return PLocRead::Refused(answer.number());
         };
-        let CStringRead::Read(state, c) = c.cstring(body) else {
-            return PLocRead::Refused(8);
+        let answer = c.cstring(body, NAME_LIMIT);
+        let CStringRead::Read(state, c) = answer else {
+            return PLocRead::Refused(answer.number());
         };
         PLocRead::Read(
             PLoc {
@@ -142,6 +149,23 @@ impl PLoc {
         )
     }
 
+    fn put(
+        out: &mut [u8],
+        at: usize,
+        listening_tcp_port: u16,
+        kind: &[u8],
+        name: &[u8],
+        state: &[u8],
+    ) -> usize
+        ensures { λ r. ⌜ Writes ploc («listening_tcp_port», (now (kind .entry), (now (name .entry), now (state .entry))))
+            at (now (out .entry)) r (now (out .exit)) ⌝ }
+    {
+        let at = put_u16(out, at, listening_tcp_port);
+        let at = put_cstring(out, at, kind);
+        let at = put_cstring(out, at, name);
+        put_cstring(out, at, state)
+    }
+
     pub fn write_to_bytes(
         out: &mut [u8],
         at: usize,
@@ -156,15 +180,19 @@ impl PLoc {
             holds_zero(kind),
             either(holds_zero(name), holds_zero(state)),
         );
+        let over = either(
+            over_limit(kind.len(), NAME_LIMIT),
+            either(
+                over_limit(name.len(), NAME_LIMIT),
+                over_limit(state.len(), NAME_LIMIT),
+            ),
+        );
         let len = PLoc::size_bytes(kind, name, state);
-        let number = weigh(zeros, false, at, len, out.len());
+        let number = weigh(zeros, over, false, at, len, out.len());
         if number != 0 {
             return Put { number, at };
         }
-        let at = put_u16(out, at, listening_tcp_port);
-        let at = put_cstring(out, at, kind);
-        let at = put_cstring(out, at, name);
-        let at = put_cstring(out, at, state);
+        let at = PLoc::put(out, at, listening_tcp_port, kind, name, state);
         Put { number: 0, at }
     }
 }

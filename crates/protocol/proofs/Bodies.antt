@@ -21,8 +21,8 @@ pub data Numbers : Type 0 where
 abbrev pub numbersOf : (f : Format) → View f → Numbers
 numbersOf (number w) n = one n
 numbersOf (code n r) c = one c
-numbersOf cstring x = two (one (x .0)) (one (x .1))
-numbersOf ucs2 x = two (one (x .0)) (one (x .1))
+numbersOf (cstring m) x = two (one (x .0)) (one (x .1))
+numbersOf (ucs2 m) x = two (one (x .0)) (one (x .1))
 numbersOf (list w f) x = two (one (x .0)) (one (x .1))
 numbersOf (f & g) x = two (numbersOf f (x .0)) (numbersOf g (x .1))
 
@@ -41,8 +41,8 @@ right (two a b) = b
 abbrev pub viewOf : (f : Format) → Numbers → View f
 viewOf (number w) n = only n
 viewOf (code n r) c = only c
-viewOf cstring x = (only (left x), only (right x))
-viewOf ucs2 x = (only (left x), only (right x))
+viewOf (cstring m) x = (only (left x), only (right x))
+viewOf (ucs2 m) x = (only (left x), only (right x))
 viewOf (list w f) x = (only (left x), only (right x))
 viewOf (f & g) x = (viewOf f (left x), viewOf g (right x))
 

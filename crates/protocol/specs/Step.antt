@@ -18,7 +18,7 @@ use Rattle.protocol.specs.Kind.{Kind, layer, bodyOf, kindOf}
 -- a message of a kind: the offset of its body, in FPTC its content hint, its fields, the count of added bytes;
 -- an unknown packet: the layer's cookie and, in a known layer, the content type;
 -- a fragment: its part and the count of parts;
--- the number of a refusal, 6 to 10
+-- the number of a refusal, 6 to 10 or 19
 pub data Content (Fields : Format → Type 0) : Type 0 where
   message : (k : Kind) (start : ℕ) (hint : Option ℕ) → Fields (bodyOf k) → (added : ℕ) → Content Fields
   unknown : (layer : ℕ) (type : Option ℕ) → Content Fields

@@ -1,24 +1,19 @@
 -- The search for a zero, place by place.
 use Prim.Native.Nat.{ℕ, _+_, _≤_, _<_}
 use mathlib.Core.Path.{_≡_, refl}
-use mathlib.Core.Bool.{Bool, true, false}
+use mathlib.Core.Bool.{true, false}
 use mathlib.Core.List.{List}
 use native.Mathlib.Numerals.{add-one}
 use native.Mathlib.Omega.{arith}
 use borrow.Author.Tests.{eq-eqb, ne-eqb}
 use lib.ListN.{length, getD, drop, drop-of-length-le}
 use lib.Seq.{drop-cons}
-use lib.Dec.{eqb}
-use Rattle.format.specs.Format.{cstring, ucs2}
-use Rattle.format.specs.Fault.{any, holdsZero}
-
-abbrev pub anyZero : List ℕ → Bool
-anyZero s = any (λ x. eqb x 0) s
+use Rattle.format.specs.Fault.{any, hasZero}
 
 -- no zero stands in front of i
 pub record Searched (s : List ℕ) (i : ℕ) : Type 0 where
   pub within : i ≤ length s
-  pub rest : anyZero (drop i s) ≡ anyZero s
+  pub rest : hasZero (drop i s) ≡ hasZero s
 
 pub searched-none : {s : List ℕ} → Searched s 0
 searched-none = record { within = omega arith; rest = refl }
@@ -30,29 +25,10 @@ searched-more {s} {i} h e a = record {
   rest = rw add-one (rw (drop-cons s i 0 h, ne-eqb (getD s i 0) 0 e) at (a .rest));
 }
 
-pub found : {s : List ℕ} {i : ℕ} → i < length s → getD s i 0 ≡ 0 → Searched s i → true ≡ anyZero s
+pub found : {s : List ℕ} {i : ℕ} → i < length s → getD s i 0 ≡ 0 → Searched s i → true ≡ hasZero s
 unfolding any
 found {s} {i} h e a = rw (drop-cons s i 0 h, eq-eqb (getD s i 0) 0 e) at (a .rest)
 
-pub not-found : {s : List ℕ} {i : ℕ} → length s ≤ i → Searched s i → false ≡ anyZero s
+pub not-found : {s : List ℕ} {i : ℕ} → length s ≤ i → Searched s i → false ≡ hasZero s
 unfolding any
 not-found {s} h a = rw (drop-of-length-le s h) at (a .rest)
-
--- ---- of strings
-
-module _ {s : List ℕ} {i : ℕ} (a : Searched s i) where
-  pub cstring-found : i < length s → getD s i 0 ≡ 0 → true ≡ holdsZero cstring s
-  unfolding holdsZero
-  cstring-found h e = found h e a
-
-  pub cstring-free : length s ≤ i → false ≡ holdsZero cstring s
-  unfolding holdsZero
-  cstring-free h = not-found h a
-
-  pub ucs2-found : i < length s → getD s i 0 ≡ 0 → true ≡ holdsZero ucs2 s
-  unfolding holdsZero
-  ucs2-found h e = found h e a
-
-  pub ucs2-free : length s ≤ i → false ≡ holdsZero ucs2 s
-  unfolding holdsZero
-  ucs2-free h = not-found h a

@@ -7,7 +7,7 @@ use lib.Dec.{leb}
 use lib.ListN.{length}
 use lib.Seq.{sets}
 use Rattle.format.specs.Format.{Format, Value, encode, number, _&_}
-use Rattle.format.specs.Fault.{holdsZero, tooLong, weighed}
+use Rattle.format.specs.Fault.{holdsZero, overLimit, tooLong, weighed}
 use Rattle.put.specs.declared.Put.{Put}
 
 -- bytes at a place of the output before, as far as it reaches: the place where the write stops, and the output after it
@@ -28,8 +28,8 @@ abbrev pub capped : ℕ → ℕ
 capped n = min n usizeMax
 
 -- the number of a write of len bytes at a place of an output of room bytes
-pub record Weighs (number : ℕ) (zeros long : Bool) (at len room : ℕ) : Type 0 where
-  pub weighs : number ≡ weighed zeros long (at + len) room
+pub record Weighs (number : ℕ) (zeros over long : Bool) (at len room : ℕ) : Type 0 where
+  pub weighs : number ≡ weighed zeros over long (at + len) room
 
 -- what a writer of this number answers, and the output: with 0 the bytes stand at the place, and the answer's place is behind them;
 -- with any other number place and output are what they were
@@ -37,14 +37,15 @@ abbrev pub settled : (number at : ℕ) (bytes out : List ℕ) → Put × List �
 settled zero at bytes out = (record { number = 0; at = at + length bytes }, sets out at bytes)
 settled (suc n) at bytes out = (record { number = suc n; at = at }, out)
 
--- a value at a place, where `zeros` says that a string holds a zero, and `long` that a list, or a count that is declared, is too long
-unfoldable pub putJudged : (zeros long : Bool) (f : Format) → Value f → (at : ℕ) (out : List ℕ) → Put × List ℕ
-putJudged zeros long f v at out = settled (weighed zeros long (at + length (encode f v)) (length out)) at (encode f v) out
+-- a value at a place, where `zeros` says that a string holds a zero, `over` that one is longer than its limit,
+-- and `long` that a list, or a count that is declared, is too long
+unfoldable pub putJudged : (zeros over long : Bool) (f : Format) → Value f → (at : ℕ) (out : List ℕ) → Put × List ℕ
+putJudged zeros over long f v at out = settled (weighed zeros over long (at + length (encode f v)) (length out)) at (encode f v) out
 
 -- a body at a place: what its `write_to_bytes` answers, and the output after it
 abbrev pub putAt : (f : Format) → Value f → (at : ℕ) (out : List ℕ) → Put × List ℕ
-putAt f v at out = putJudged (holdsZero f v) (tooLong f v) f v at out
+putAt f v at out = putJudged (holdsZero f v) (overLimit f v) (tooLong f v) f v at out
 
 -- a head at a place: the fields, then a count in a field of w bytes, which it may be too long for
 abbrev pub putHead : (f : Format) → Value f → (w count at : ℕ) (out : List ℕ) → Put × List ℕ
-putHead f v w count at out = putJudged (holdsZero f v) (tooLong f v || leb (256 ^ w) count) (f & number w) (v, count) at out
+putHead f v w count at out = putJudged (holdsZero f v) (overLimit f v) (tooLong f v || leb (256 ^ w) count) (f & number w) (v, count) at out

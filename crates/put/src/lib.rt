@@ -1,11 +1,12 @@
 // Writes values at a place of lent output, sizes them, and weighs whether a write is taken.
-ghost use Prim.Native.Nat.{_+_, _≤_};
+ghost use Prim.Native.Nat.{_+_, _*_, _≤_};
 ghost use mathlib.Core.Path.{_≡_};
 ghost use mathlib.Core.Bool.{_||_};
 ghost use mathlib.Core.List.{[], _∷_};
 ghost use lib.ListN.{length};
+ghost use lib.Dec.{ltb};
 ghost use Rattle.format.specs.Format.{number, cstring, ucs2, list, encodeNumber, concatMap, size};
-ghost use Rattle.format.specs.Fault.{holdsZero, tooLong};
+ghost use Rattle.format.specs.Fault.{hasZero, tooLong};
 ghost use Rattle.put.specs.Put.{Puts, Writes, capped, Weighs};
 
 // The bytes of the largest packet.
@@ -141,16 +142,16 @@ fn put_u32s(out: &mut [u8], at: usize, numbers: &[u32]) -> usize
     next
 }
 
-// A string with its zero, of bytes and of units.
+// A string with its zero, of bytes and of units; here its limit is its own length.
 pub fn put_cstring(out: &mut [u8], at: usize, bytes: &[u8]) -> usize
-    ensures { λ r. ⌜ Writes cstring (now (bytes .entry)) at (now (out .entry)) r (now (out .exit)) ⌝ }
+    ensures { λ r. ⌜ Writes (cstring (length (now (bytes .entry)))) (now (bytes .entry)) at (now (out .entry)) r (now (out .exit)) ⌝ }
 {
     let end = put_bytes(out, at, bytes);
     put_byte(out, end, 0)
 }
 
 pub fn put_ucs2(out: &mut [u8], at: usize, units: &[u16]) -> usize
-    ensures { λ r. ⌜ Writes ucs2 (now (units .entry)) at (now (out .entry)) r (now (out .exit)) ⌝ }
+    ensures { λ r. ⌜ Writes (ucs2 (length (now (units .entry)))) (now (units .entry)) at (now (out .entry)) r (now (out .exit)) ⌝ }
 {
     let end = put_u16s(out, at, units);
     put_number_2(out, end, 0)
@@ -181,7 +182,7 @@ pub fn put_u32_list(out: &mut [u8], at: usize, numbers: &[u32]) -> usize
 // ---- what a string or a list is refused for
 
 pub fn holds_zero(bytes: &[u8]) -> bool
-    ensures { λ r. ⌜ r ≡ holdsZero cstring (now (bytes .entry)) ⌝ }
+    ensures { λ r. ⌜ r ≡ hasZero (now (bytes .entry)) ⌝ }
 {
     let mut i = 0;
     while i < bytes.len() {
@@ -194,7 +195,7 @@ pub fn holds_zero(bytes: &[u8]) -> bool
 }
 
 pub fn holds_zero_unit(units: &[u16]) -> bool
-    ensures { λ r. ⌜ r ≡ holdsZero ucs2 (now (units .entry)) ⌝ }
+    ensures { λ r. ⌜ r ≡ hasZero (now (units .entry)) ⌝ }
 {
     let mut i = 0;
     while i < units.len() {
@@ -204,6 +205,13 @@ pub fn holds_zero_unit(units: &[u16]) -> bool
         i += 1;
     }
     false
+}
+
+// Whether a string of so many bytes or units is longer than its limit.
+pub fn over_limit(len: usize, limit: usize) -> bool
+    ensures { λ r. ⌜ r ≡ ltb limit len ⌝ }
+{
+    limit < len
 }
 
 pub fn block_too_long(block: &[u8]) -> bool
@@ -233,13 +241,13 @@ pub fn either(a: bool, b: bool) -> bool
 // ---- sizes
 
 pub fn cstring_size(bytes: &[u8]) -> usize
-    ensures { λ r. ⌜ r ≡ size cstring (now (bytes .entry)) ⌝ }
+    ensures { λ r. ⌜ r ≡ length (now (bytes .entry)) + 1 ⌝ }
 {
     bytes.len() + 1
 }
 
 pub fn ucs2_size(units: &[u16]) -> usize
-    ensures { λ r. ⌜ r ≡ size ucs2 (now (units .entry)) ⌝ }
+    ensures { λ r. ⌜ r ≡ length (now (units .entry)) * 2 + 2 ⌝ }
 {
     units.len() * 2 + 2
 }
@@ -273,11 +281,14 @@ pub fn more(a: usize, b: usize) -> usize
 }
 
 // The number of a write of len bytes at a place of an output of room bytes: 0 if it is taken.
-pub fn weigh(zeros: bool, long: bool, at: usize, len: usize, room: usize) -> u8
-    ensures { λ r. ⌜ Weighs r zeros long at len room ⌝ }
+pub fn weigh(zeros: bool, over: bool, long: bool, at: usize, len: usize, room: usize) -> u8
+    ensures { λ r. ⌜ Weighs r zeros over long at len room ⌝ }
 {
     if zeros {
         return 11;
+    }
+    if over {
+        return 19;
     }
     if long {
         return 12;

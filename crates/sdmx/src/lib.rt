@@ -14,6 +14,7 @@ use put::block_too_long;
 use put::cstring_size;
 use put::holds_zero;
 use put::more;
+use put::over_limit;
 use put::put_block;
 use put::put_cstring;
 use put::put_u8;
@@ -28,6 +29,7 @@ use wire::CString;
 use wire::CStringRead;
 use wire::Cursor;
 use wire::ItemsRead;
+use wire::NAME_LIMIT;
 use wire::U8Read;
 use wire::U16List;
 use wire::U16ListRead;
@@ -91,7 +93,7 @@ impl Capa {
     {
         let long = u16_list_too_long(capabilities);
         let len = Capa::size_bytes(capabilities);
-        let number = weigh(false, long, at, len, out.len());
+        let number = weigh(false, false, long, at, len, out.len());
         if number != 0 {
             return Put { number, at };
         }
@@ -122,8 +124,9 @@ impl UNam {
         let U8Read::Read(universe_index, c) = c.u8(body) else {
             return UNamRead::Refused(7);
         };
-        let CStringRead::Read(universe_name, c) = c.cstring(body) else {
-            return UNamRead::Refused(8);
+        let answer = c.cstring(body, NAME_LIMIT);
+        let CStringRead::Read(universe_name, c) = answer else {
+            return UNamRead::Refused(answer.number());
         };
         UNamRead::Read(
             UNam {
@@ -149,8 +152,9 @@ impl UNam {
         ensures { λ r. ⌜ (r, now (out .exit)) ≡ putAt unam («universe_index», now («universe_name» .entry)) at (now (out .entry)) ⌝ }
     {
         let zeros = holds_zero(universe_name);
+        let over = over_limit(universe_name.len(), NAME_LIMIT);
         let len = UNam::size_bytes(universe_name);
-        let number = weigh(zeros, false, at, len, out.len());
+        let number = weigh(zeros, over, false, at, len, out.len());
         if number != 0 {
             return Put { number, at };
         }
@@ -224,7 +228,7 @@ impl ChBk {
     {
         let long = block_too_long(channel_levels);
         let len = ChBk::size_bytes(channel_levels);
-        let number = weigh(false, long, at, len, out.len());
+        let number = weigh(false, false, long, at, len, out.len());
         if number != 0 {
             return Put { number, at };
         }
@@ -363,8 +367,9 @@ impl Sxus {
         let U8Read::Read(universe_index, c) = c.u8(body) else {
             return SxusRead::Refused(7);
         };
-        let CStringRead::Read(connection_string, c) = c.cstring(body) else {
-            return SxusRead::Refused(8);
+        let answer = c.cstring(body, NAME_LIMIT);
+        let CStringRead::Read(connection_string, c) = answer else {
+            return SxusRead::Refused(answer.number());
         };
         SxusRead::Read(
             Sxus {
@@ -390,8 +395,9 @@ impl Sxus {
         ensures { λ r. ⌜ (r, now (out .exit)) ≡ putAt sxus («universe_index», now («connection_string» .entry)) at (now (out .entry)) ⌝ }
     {
         let zeros = holds_zero(connection_string);
+        let over = over_limit(connection_string.len(), NAME_LIMIT);
         let len = Sxus::size_bytes(connection_string);
-        let number = weigh(zeros, false, at, len, out.len());
+        let number = weigh(zeros, over, false, at, len, out.len());
         if number != 0 {
             return Put { number, at };
         }

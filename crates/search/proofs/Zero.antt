@@ -1,16 +1,15 @@
 -- A search that passed no zero and ends at one, or at the end, has counted what stands before the zero.
-use Prim.Native.Nat.{zero-le, ℕ, zero, suc, _+_, _-_, _*_, _≤_, _<_, max}
+use Prim.Native.Nat.{zero-le, ℕ, zero, suc, _+_, _-_, _*_, _/_, _≤_, _<_, max}
 use mathlib.Core.Path.{_≡_, refl, sym, ap, _∙_}
 use mathlib.Core.Bool.{Bool, true, false}
 use mathlib.Core.List.{List, [], _∷_}
 use native.Mathlib.Omega.{arith}
-use borrow.Author.Tests.{eq-eqb, ne-eqb}
-use lib.Dec.{eqb}
-use lib.ListN.{length, take, drop, length-drop}
+use borrow.Author.Tests.{eq-eqb, ne-eqb, lt-ltb, le-ltb, ltb-true, ltb-false}
+use lib.Dec.{eqb, ltb}
+use lib.ListN.{length, take, drop, length-drop, drop-of-length-le}
 use lib.Seq.{take-all, getD-drop}
-use Rattle.search.specs.Zero.{unless, beforeZero, unitsBeforeZero}
+use Rattle.search.specs.Zero.{unless, none, orNone, beforeZero, unitsBeforeZero, bytesToZero, unitsToZero}
 use Rattle.search.specs.Free.{byteOf, unitOf, Free, First}
-use Rattle.search.proofs.Free.{split}
 
 -- the first zero of a list
 bytes-counted : (t : List ℕ) (n : ℕ) → ((k : ℕ) → k < n → byteOf t k ≡ 0 → ⊥) → (n < length t → byteOf t n ≡ 0) → n ≡ beforeZero t
@@ -40,6 +39,17 @@ units-counted (b ∷ c ∷ t) (suc n) free within ends =
     let rest = units-counted t n passed (omega arith) (λ h. sym (next-unit b c t n) ∙ ends (omega arith)) in
     rw (ne-eqb (b + 256 * c) 0 (free 0 (omega arith))) (ap suc rest)
 
+-- counted up to a zero, and up to the end
+pub counted-here : (t : List ℕ) (i : ℕ) → Free (byteOf t) 0 i → i < length t → byteOf t i ≡ 0 → i ≡ bytesToZero t
+counted-here t i x h z =
+    let n : i ≡ beforeZero t = bytes-counted t i (λ k l q. x .free k zero-le l q) (λ _. z) in
+    rw (← n, lt-ltb i (length t) h) refl
+
+pub counted-none : (t : List ℕ) (i : ℕ) → Free (byteOf t) 0 i → length t ≤ i → none ≡ bytesToZero t
+counted-none t i x h =
+    let n : i ≡ beforeZero t = bytes-counted t i (λ k l q. x .free k zero-le l q) (λ l. absurd (omega arith)) in
+    rw (← n, le-ltb i (length t) h) refl
+
 module _ (s : List ℕ) (at : ℕ) where
   pub first-is : {r : ℕ} → Free (byteOf s) at r → (r < length s → byteOf s r ≡ 0) → r ≡ at + beforeZero (drop at s)
   first-is {r} x ends =
@@ -53,13 +63,27 @@ module _ (s : List ℕ) (at : ℕ) where
   abbrev behind : List ℕ
   behind = take (length s - at) (drop at s)
 
-  -- the first eight looked at where they stand, the others in that slice
-  pub first-behind : {r : ℕ} → Free (byteOf s) at (at + 8) → First (byteOf behind) 8 (length behind) r → at + r ≡ at + beforeZero (drop at s)
-  first-behind {r} near first =
-      let far : First (byteOf (drop at s)) 8 (length (drop at s)) r = rw (take-all (length s - at) (drop at s) (omega (arith, length-drop at s))) at first in
-      let passed : (k : ℕ) → k < r → byteOf (drop at s) k ≡ 0 → ⊥ = λ k h z. split k 7 ⊥
-      (λ l. near .free (at + k) (omega arith) (omega arith) (sym (getD-drop at s k 0) ∙ z)) (λ l. far .passed .free k (omega arith) h z) in
-      ap (λ n. at + n) (bytes-counted (drop at s) r passed (far .ends))
+  pub counted-behind : {r : ℕ} → First (byteOf behind) 0 (length behind) r → r ≡ beforeZero (drop at s)
+  counted-behind {r} first =
+      let x : First (byteOf (drop at s)) 0 (length (drop at s)) r = rw (take-all (length s - at) (drop at s) (omega (arith, length-drop at s))) at first in
+      bytes-counted (drop at s) r (λ k h z. x .passed .free k zero-le h z) (x .ends)
+
+  pub none-behind : length s ≤ at → none ≡ bytesToZero (drop at s)
+  unfolding beforeZero
+  none-behind h = rw (drop-of-length-le s h) refl
+
+  pub found-behind : {n r : ℕ} → First (byteOf behind) 0 (length behind) n → r ≡ orNone (ltb n (length behind)) n → r ≡ bytesToZero (drop at s)
+  found-behind {n} f e =
+      let all : behind ≡ drop at s = take-all (length s - at) (drop at s) (omega (arith, length-drop at s)) in
+      e ∙ rw (all, counted-behind f) refl
+
+  pub few-behind : {r : ℕ} → r ≡ bytesToZero behind → r ≡ bytesToZero (drop at s)
+  few-behind e =
+      let all : behind ≡ drop at s = take-all (length s - at) (drop at s) (omega (arith, length-drop at s)) in
+      e ∙ rw all refl
+
+  pub near-behind : {n : ℕ} → First (byteOf behind) 0 (length behind) n → n < length behind → n ≡ bytesToZero (drop at s)
+  near-behind {n} f h = found-behind f (rw (lt-ltb n (length behind) h) refl)
 
   dropped : (k : ℕ) → unitOf (drop at s) 0 k ≡ unitOf s at k
   dropped k =
@@ -74,6 +98,25 @@ module _ (s : List ℕ) (at : ℕ) where
       (λ k h z. x .free k (omega arith) h (sym (dropped k) ∙ z))
       (omega (arith, length-drop at s))
       (λ h. dropped n ∙ ends (omega (arith, length-drop at s)))
+
+-- n units of l bytes are followed by another
+half : (n l : ℕ) → ltb n (l / 2) ≡ ltb (2 * n + 1) l
+half n l = by (ltb n (l / 2)) refl
+  where
+    by : (b : Bool) → ltb n (l / 2) ≡ b → b ≡ ltb (2 * n + 1) l
+    by true e = sym (lt-ltb (2 * n + 1) l (omega (arith, ltb-true n (l / 2) e)))
+    by false e = sym (le-ltb (2 * n + 1) l (omega (arith, ltb-false n (l / 2) e)))
+
+module _ (s : List ℕ) (at : ℕ) where
+  pub units-none : length s < at → none ≡ unitsToZero (drop at s)
+  unfolding unitsBeforeZero
+  units-none h = let past : length s ≤ at = omega arith in rw (drop-of-length-le s past) refl
+
+  pub units-found : {n r : ℕ} → n ≡ unitsBeforeZero (drop at s) → r ≡ orNone (ltb n ((length s - at) / 2)) n → r ≡ unitsToZero (drop at s)
+  units-found {n} e f = f ∙ rw (half n (length s - at), ← length-drop at s, e) refl
+
+  pub units-near : {n : ℕ} → n ≡ unitsBeforeZero (drop at s) → n < (length s - at) / 2 → n ≡ unitsToZero (drop at s)
+  units-near {n} e h = units-found e (rw (lt-ltb n ((length s - at) / 2) h) refl)
 
 -- no more stands before the zero than is there
 pub before-within : (t : List ℕ) → beforeZero t ≤ length t

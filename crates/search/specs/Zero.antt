@@ -2,7 +2,8 @@
 use Prim.Native.Nat.{ℕ, suc, _+_, _*_}
 use mathlib.Core.Bool.{Bool, true, false}
 use mathlib.Core.List.{List, [], _∷_}
-use lib.Dec.{eqb}
+use lib.ListN.{length}
+use lib.Dec.{eqb, ltb}
 
 abbrev pub unless : Bool → ℕ → ℕ
 unless true n = 0
@@ -18,3 +19,20 @@ unfoldable pub unitsBeforeZero : List ℕ → ℕ
 unitsBeforeZero [] = 0
 unitsBeforeZero (b ∷ []) = 0
 unitsBeforeZero (b ∷ c ∷ s) = unless (eqb (b + 256 * c) 0) (suc (unitsBeforeZero s))
+
+-- a count that no slice reaches: the largest of a usize
+abbrev pub none : ℕ
+none = 18446744073709551615
+
+-- a count, or none
+abbrev pub orNone : Bool → ℕ → ℕ
+orNone true n = n
+orNone false n = none
+
+-- the bytes before the first zero byte, or none where there is no zero byte
+abbrev pub bytesToZero : List ℕ → ℕ
+bytesToZero s = orNone (ltb (beforeZero s) (length s)) (beforeZero s)
+
+-- the units before the first zero unit, or none where there is no zero unit
+abbrev pub unitsToZero : List ℕ → ℕ
+unitsToZero s = orNone (ltb (2 * unitsBeforeZero s + 1) (length s)) (unitsBeforeZero s)

@@ -3,13 +3,24 @@
 ghost use Prim.Native.Nat.{_+_, _*_, _<_, _≤_, min};
 ghost use mathlib.Core.Path.{_≡_};
 ghost use lib.ListN.{drop};
-ghost use Rattle.search.specs.Zero.{beforeZero, unitsBeforeZero};
+ghost use lib.Dec.{ltb};
+ghost use Rattle.search.specs.Zero.{orNone, beforeZero, bytesToZero, unitsToZero};
 ghost use Rattle.search.specs.Free.{byteOf, unitOf, Rows, Free, First};
 
 fn smaller(a: usize, b: usize) -> usize
     ensures { λ r. ⌜ r ≡ min a b ⌝ }
 {
     if a < b { a } else { b }
+}
+
+// The answer where there is no zero; no slice is as long.
+pub const NONE: usize = usize::MAX;
+
+// A place before `stop`, or none.
+fn or_none(n: usize, stop: usize) -> usize
+    ensures { λ r. ⌜ r ≡ orNone (ltb n stop) n ⌝ }
+{
+    if n < stop { n } else { NONE }
 }
 
 // ---- bytes
@@ -144,6 +155,20 @@ fn first_one_by_one(s: &[u8], from: usize, stop: usize) -> usize
     i
 }
 
+// The first zero of a few bytes, or NONE. A place found is answered where it is found: the compiler then knows that it is small.
+fn first_of_few(s: &[u8]) -> usize
+    ensures { λ r. ⌜ r ≡ bytesToZero (now (s .entry)) ⌝ }
+{
+    let mut i = 0;
+    while i < s.len() {
+        if s[i] == 0 {
+            return i;
+        }
+        i += 1;
+    }
+    NONE
+}
+
 // The same by eights.
 fn first_by_eights(s: &[u8], from: usize, stop: usize) -> usize
     requires { do ⌜ (from ≤ stop) × (stop ≤ (← ⟦s.len()⟧)) ⌝ }
@@ -188,23 +213,25 @@ pub fn first_zero(s: &[u8], at: usize) -> usize
     first_by_blocks(s, at)
 }
 
-// The same for names: the first eight bytes are looked at by code so short that the compiler puts it into each reader.
-pub fn first_zero_near(s: &[u8], at: usize) -> usize
-    ensures { λ r. ⌜ r ≡ at + beforeZero (drop at (now (s .entry))) ⌝ }
+// The bytes before the first zero byte at or behind `at`, or NONE. For names: the first eight bytes are looked at by code so short that the
+// compiler puts it into each reader.
+pub fn bytes_before_zero(s: &[u8], at: usize) -> usize
+    ensures { λ r. ⌜ r ≡ bytesToZero (drop at (now (s .entry))) ⌝ }
 {
     if s.len() <= at {
-        return at;
+        return NONE;
     }
-    if s.len() - at < 8 {
-        return first_one_by_one(s, at, s.len());
+    let near = &s[at..];
+    if near.len() < 8 {
+        return first_of_few(near);
     }
-    let r = first_of_8(s, at);
-    if r < at + 8 {
-        return r;
+    let n = first_of_8(near, 0);
+    if n < 8 {
+        return n;
     }
-    // the blocks get a slice of their own: so this one stays in registers, and short names pay for no frame
+    // the blocks get a slice of their own: so `near` stays in registers, and short names pay for no frame
     let rest = &s[at..];
-    at + first_by_blocks(rest, 8)
+    or_none(first_by_blocks(rest, 8), near.len())
 }
 
 // ---- units; `at` is where the first one starts
@@ -295,20 +322,20 @@ fn first_unit_by_blocks(s: &[u8], at: usize, count: usize) -> usize
     first_unit_one_by_one(s, at, n, count)
 }
 
-// The number of units from `at` on before the first zero unit, or of all; a lone last byte is no unit.
+// The units from `at` on before the first zero unit, or NONE; a lone last byte is no unit.
 pub fn units_before_zero(s: &[u8], at: usize) -> usize
-    ensures { λ r. ⌜ r ≡ unitsBeforeZero (drop at (now (s .entry))) ⌝ }
+    ensures { λ r. ⌜ r ≡ unitsToZero (drop at (now (s .entry))) ⌝ }
 {
     if s.len() < at {
-        return 0;
+        return NONE;
     }
     let count = (s.len() - at) / 2;
     if count < 24 {
-        return first_unit_one_by_one(s, at, 0, count);
+        return or_none(first_unit_one_by_one(s, at, 0, count), count);
     }
     let r = first_of_24_units(s, at);
     if r < 24 {
         return r;
     }
-    first_unit_by_blocks(s, at, count)
+    or_none(first_unit_by_blocks(s, at, count), count)
 }

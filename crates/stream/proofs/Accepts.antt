@@ -8,17 +8,18 @@ use native.Mathlib.Nat.{le-refl}
 use borrow.Author.Tests.{lt-leb, lt-ltb, le-leb, eq-eqb}
 use lib.ListN.{length, length-append, replicate, length-replicate}
 use lib.Seq.{sets, length-sets}
-use Rattle.format.specs.Format.{Format, number, code, ucs2, _&_, Value, encode, size, concatMap, All, Valid}
+use Rattle.format.specs.Format.{Format, number, code, _&_, Value, encode, size, concatMap, All, Valid}
 use Rattle.format.specs.Fault.{limit}
-use Rattle.format.proofs.Faults.{valid-no-zero, valid-not-long, valid-fits}
+use Rattle.format.proofs.Faults.{valid-no-zero, valid-not-over, valid-not-long, valid-fits}
 use Rattle.format.proofs.Lists.{all-append, all-of-map}
 use Rattle.format.proofs.Width.{size-is-length}
 use Rattle.protocol.specs.Layer.{headerLength}
-use Rattle.protocol.specs.Kind.{Kind, index, layer, bodyOf, sameKind, identifierFormat, fixtureDataFormat, fixtureHead, fixtureFormat, laserPointFormat}
+use Rattle.protocol.specs.Kind.{Kind, index, layer, bodyOf, sameKind}
+use Rattle.protocol.specs.Kind.{identifierFormat, fixtureDataFormat, fixtureHead, fixtureFormat, feedNameFormat, laserPointFormat}
 use Rattle.protocol.specs.Kind.{FixtureList, LaserFeedList, LaserFeedFrame}
 use Rattle.protocol.specs.Message.{Message, headersOf, packetSize, Sendable}
 use Rattle.protocol.proofs.Headers.{length-headers}
-use Rattle.writing.specs.Call.{Layout, plain, counted, layoutFits, layoutZero, layoutLong, Part, feedName, laserPoint, identifier, fixtureData}
+use Rattle.writing.specs.Call.{Layout, plain, counted, layoutFits, layoutZero, layoutOver, layoutLong, Part, feedName, laserPoint, identifier, fixtureData}
 use Rattle.writing.specs.Call.{opens, give, closes, Typed, partBytes, headOf, identifiersOf, dataOf, fixtureParts, partsOf, callsOf}
 use Rattle.writing.specs.Call.{Form, flat, fixtures, names, points, form, isFlatForm, partsIn}
 use Rattle.writing.specs.Writer.{Turn, isFlat, idle, bodyDue, itemsDue, partsDue, partInTurn, nextPart, behindHeaders, Writer, Outcome, Progress, step, run}
@@ -28,17 +29,17 @@ use Rattle.stream.specs.Claims as claims
 use Rattle.writing.proofs.Parts.{FinePart, parts-bytes}
 use Rattle.stream.proofs.Written.{accepted-is}
 
--- ---- a valid value is given in parts that are refused neither 11 nor 12
+-- ---- a valid value is given in parts that are refused neither 11 nor 19 nor 12
 
--- of the types promised, and refused neither 11 nor 12
+-- of the types promised, and refused neither 11 nor 19 nor 12
 abbrev Fine : Layout → Type 0
-Fine l = layoutFits l × (layoutZero l ≡ false) × (layoutLong l ≡ false)
+Fine l = layoutFits l × (layoutZero l ≡ false) × (layoutOver l ≡ false) × (layoutLong l ≡ false)
 
 plain-fine : (f : Format) (v : Value f) → Valid f v → Fine (plain f v)
-plain-fine f v h = (valid-fits f v h, valid-no-zero f v h, valid-not-long f v h)
+plain-fine f v h = (valid-fits f v h, valid-no-zero f v h, valid-not-over f v h, valid-not-long f v h)
 
 counted-fine : (f : Format) (v : Value f) (w n : ℕ) → Valid f v → n < 256 ^ w → Fine (counted f v w n)
-counted-fine f v w n h l = (valid-fits f v h, valid-no-zero f v h, rw (valid-not-long f v h) (lt-leb (256 ^ w) n l))
+counted-fine f v w n h l = (valid-fits f v h, valid-no-zero f v h, valid-not-over f v h, rw (valid-not-long f v h) (lt-leb (256 ^ w) n l))
 
 fixture-fine : (x : Value fixtureFormat) → Valid fixtureFormat x → All FinePart (fixtureParts x)
 fixture-fine x h =
@@ -61,7 +62,10 @@ parts-fine k v h = by (form k) v h
     by : {k : Kind} (f : Form k) (v : Value (bodyOf k)) → Valid (bodyOf k) v → All FinePart (partsIn f v)
     by {k} flat v h = (plain-fine (bodyOf k) v h, tt)
     by fixtures v h = (counted-fine (code 3 9) (v .0) 2 (length (v .1)) (h .0) (h .1 .0), fixtures-fine (v .1) (h .1 .1))
-    by names v h = (counted-fine (number 4) (v .0) 1 (length (v .1)) (h .0) (h .1 .0), all-of-map FinePart (Valid ucs2) feedName (plain-fine ucs2) (v .1) (h .1 .1))
+    by names v h = (
+      counted-fine (number 4) (v .0) 1 (length (v .1)) (h .0) (h .1 .0),
+      all-of-map FinePart (Valid feedNameFormat) feedName (plain-fine feedNameFormat) (v .1) (h .1 .1),
+    )
     by points v h = (
       counted-fine (number 4 & number 1 & number 4) (v .0, (v .1 .0, v .1 .1 .0)) 2 (length (v .1 .1 .1)) (h .0, (h .1 .0, h .1 .1 .0)) (h .1 .1 .1 .0),
       all-of-map FinePart (Valid laserPointFormat) laserPoint (plain-fine laserPointFormat) (v .1 .1 .1) (h .1 .1 .1 .1),
@@ -169,7 +173,8 @@ runs ps s u (go {p = p} {ps = qs} e low k) h f l m =
       in-turn = e;
       behind = floor-behind (s .writer .turn) at f;
       no-zero = h .0 .1;
-      not-long = h .0 .2;
+      not-over = h .0 .2;
+      not-long = h .0 .3;
       within = omega arith;
       has-room = omega arith;
     } in
@@ -211,7 +216,15 @@ message-runs m ok o e =
     let short : length hs ≡ headerLength (layer k) = length-headers k 0 (m .request) (m .hint) in
     let long : length (encode (bodyOf k) (m .value)) ≡ size (bodyOf k) (m .value) = sym (size-is-length (bodyOf k) (m .value)) in
     let most : packetSize m ≤ limit = ok .within in
-    let t : Taken (opens k (m .request) (m .hint)) fresh o = record { in-turn = refl; behind = refl; no-zero = refl; not-long = refl; within = omega arith; has-room = omega arith } in
+    let t : Taken (opens k (m .request) (m .hint)) fresh o = record {
+      in-turn = refl;
+      behind = refl;
+      no-zero = refl;
+      not-over = refl;
+      not-long = refl;
+      within = omega arith;
+      has-room = omega arith;
+    } in
     let same : length (sets o 0 hs) ≡ length o = length-sets o 0 hs in
     let all : length (concatMap partBytes ps) ≡ size (bodyOf k) (m .value) = ap length bytes-are ∙ long in
     let r = runs ps (openedOn m o) (itemsDue k 0) (parts-turns k (m .value)) (parts-fine k (m .value) (ok .valid)) (omega arith) (omega arith) (omega arith) in
@@ -244,6 +257,7 @@ closes-taken m ok o e =
       in-turn = rw (r .turn-is);
       behind = rw (r .turn-is) (le-leb (headerLength (layer k)) (s .writer .at) low);
       no-zero = refl;
+      not-over = refl;
       not-long = refl;
       within = omega arith;
       has-room = omega arith;

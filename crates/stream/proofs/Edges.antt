@@ -1,18 +1,18 @@
 -- The edges, by computation: the table that is proved, and more of them.
 use mathlib.Core.Path.{_≡_, refl}
 use mathlib.Core.Bool.{true, false}
-use mathlib.Core.List.{[], _∷_}
+use mathlib.Core.List.{[], _∷_, _++_}
 use mathlib.Core.Option.{none, some}
 use lib.ListN.{replicate}
-use Rattle.format.specs.Format.{decodeNumber, decodeItems, decodeCString, decodeUcs2, decode, encodeNumber, encode, size, total}
-use Rattle.format.specs.Fault.{holdsZero, tooLong}
+use Rattle.format.specs.Format.{concatMap, decodeNumber, decodeItems, decodeCString, decodeUcs2, decode, encodeNumber, encode, size, total}
+use Rattle.format.specs.Fault.{any, holdsZero, overLimit, tooLong}
 use Rattle.format.specs.View.{seen, missed, place, placed, view, look}
 use Rattle.format.specs.Walk.{walkFrom}
 use Rattle.protocol.specs.Layer.{find, layerOf}
-use Rattle.protocol.specs.Kind.{LaserFeedList, LaserFeedFrame, bodyOf, kindOf, identifierFormat}
+use Rattle.protocol.specs.Kind.{EnterShow, Fram, PNam, LaserFeedList, LaserFeedFrame, bodyOf, kindOf, identifierFormat}
 use Rattle.protocol.specs.Step.{unknown, refusal, readBody, contentAt, stepAt, walk, looked}
-use Rattle.writing.specs.Call.{give, laserFeedList}
-use Rattle.writing.specs.Writer.{bodyDue, weigh, apply}
+use Rattle.writing.specs.Call.{give, laserFeedList, feedName}
+use Rattle.writing.specs.Writer.{bodyDue, itemsDue, weigh, apply}
 use Rattle.stream.specs.Edges.{Edges}
 
 pub edges : Edges
@@ -49,13 +49,14 @@ sizes = (refl, refl, refl)
 
 -- the rows of the writer, tested from the top: everything wrong is 14, and so on
 pub writer-rows :
-    (weigh false true true 16777217 0 ≡ 14)
-    × (weigh true true true 16777217 0 ≡ 11)
-    × (weigh true false true 16777217 0 ≡ 12)
-    × (weigh true false false 16777217 0 ≡ 15)
-    × (weigh true false false 16777216 16777215 ≡ 13)
-    × (weigh true false false 16777216 16777216 ≡ 0)
-writer-rows = (refl, refl, refl, refl, refl, refl)
+    (weigh false true true true 16777217 0 ≡ 14)
+    × (weigh true true true true 16777217 0 ≡ 11)
+    × (weigh true false true true 16777217 0 ≡ 19)
+    × (weigh true false false true 16777217 0 ≡ 12)
+    × (weigh true false false false 16777217 0 ≡ 15)
+    × (weigh true false false false 16777216 16777215 ≡ 13)
+    × (weigh true false false false 16777216 16777216 ≡ 0)
+writer-rows = (refl, refl, refl, refl, refl, refl, refl)
 
 -- 255 laser feed names are taken, 256 are 12; a state before its headers' end is 14
 pub counts :
@@ -63,5 +64,24 @@ pub counts :
     × (apply (give (laserFeedList 0 256)) (record { turn = bodyDue LaserFeedList; at = 24 }) (replicate 29 0) .number ≡ 12)
     × (apply (give (laserFeedList 0 255)) (record { turn = bodyDue LaserFeedList; at = 23 }) (replicate 29 0) .number ≡ 14)
     × (apply (give (laserFeedList 0 255)) (record { turn = bodyDue LaserFeedList; at = 24 }) (replicate 28 0) .number ≡ 13)
-unfolding apply encode encodeNumber holdsZero tooLong
+unfolding apply encode encodeNumber holdsZero overLimit tooLong
 counts = (refl, refl, refl, refl)
+
+-- a name of 255 bytes or units is read, one of 256 is 19, but 8 where it has no end; frame_names may be longer
+pub limits :
+    (view (bodyOf PNam) (replicate 255 0x41 ++ (0 ∷ [])) 0 ≡ seen (0, 255) 256)
+    × (view (bodyOf PNam) (replicate 256 0x41 ++ (0 ∷ [])) 0 ≡ missed 19)
+    × (view (bodyOf PNam) (replicate 256 0x41) 0 ≡ missed 8)
+    × (view (bodyOf EnterShow) (concatMap (encodeNumber 2) (replicate 255 0x41) ++ (0 ∷ 0 ∷ [])) 0 ≡ seen (0, 255) 512)
+    × (view (bodyOf EnterShow) (concatMap (encodeNumber 2) (replicate 256 0x41) ++ (0 ∷ 0 ∷ [])) 0 ≡ missed 19)
+    × (view (bodyOf Fram) (1 ∷ 0 ∷ 2 ∷ 3 ∷ (replicate 256 0x41 ++ (0 ∷ []))) 0 ≡ seen (1, (2, (3, (4, 256)))) 261)
+unfolding view placed place size decode decodeNumber decodeCString decodeUcs2 encodeNumber concatMap
+limits = (refl, refl, refl, refl, refl, refl)
+
+-- a feed's name of 255 units is taken, one of 256 is 19, and 11 where it holds a zero too
+pub feed-names :
+    (apply (give (feedName (replicate 255 0x41))) (record { turn = itemsDue LaserFeedList 1; at = 29 }) (replicate 541 0) .number ≡ 0)
+    × (apply (give (feedName (replicate 256 0x41))) (record { turn = itemsDue LaserFeedList 1; at = 29 }) (replicate 28 0) .number ≡ 19)
+    × (apply (give (feedName (replicate 256 0))) (record { turn = itemsDue LaserFeedList 1; at = 29 }) (replicate 28 0) .number ≡ 11)
+unfolding apply encode encodeNumber concatMap any holdsZero overLimit tooLong
+feed-names = (refl, refl, refl)

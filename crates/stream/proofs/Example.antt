@@ -6,7 +6,7 @@ use mathlib.Core.List.{List, [], _∷_, map}
 use mathlib.Core.Option.{none}
 use native.Mathlib.Omega.{arith}
 use Rattle.format.specs.Format.{Value, decodeNumber, decode, encodeNumber, encode, decodeItems, decodeUcs2, size, total}
-use Rattle.format.specs.Fault.{any, holdsZero, tooLong, limit}
+use Rattle.format.specs.Fault.{any, holdsZero, overLimit, tooLong, limit}
 use Rattle.format.specs.View.{seen, view, placed, place, look, steps, stepped, unitsOf}
 use Rattle.format.specs.Walk.{Step, stop, report, reports}
 use Rattle.protocol.specs.Layer.{header}
@@ -37,7 +37,7 @@ answers [] s = []
 answers (c ∷ cs) s = apply c (s .writer) (s .output) .number ∷ answers cs (step c s)
 
 pub answered : answers calls (record { writer = closedState; output = output; taken = [] }) ≡ 14 ∷ 0 ∷ 14 ∷ 11 ∷ 14 ∷ 0 ∷ []
-unfolding answers step apply headersOf encode encodeNumber holdsZero tooLong any
+unfolding answers step apply headersOf encode encodeNumber holdsZero overLimit tooLong any
 answered = refl
 
 -- universe 3 is named A
@@ -49,7 +49,7 @@ nameBytes =
     0x43 ∷ 0x49 ∷ 0x54 ∷ 0x50 ∷ 1 ∷ 0 ∷ 7 ∷ 0 ∷ 0x1B ∷ 0 ∷ 0 ∷ 0 ∷ 1 ∷ 0 ∷ 0 ∷ 0 ∷ 0x53 ∷ 0x44 ∷ 0x4D ∷ 0x58 ∷ 0x55 ∷ 0x4E ∷ 0x61 ∷ 0x6D ∷ 3 ∷ 0x41 ∷ 0 ∷ []
 
 pub name-accepted : Accepted nameBytes name
-unfolding run step apply headersOf encode encodeNumber holdsZero tooLong any decode decodeNumber
+unfolding run step apply headersOf encode encodeNumber holdsZero overLimit tooLong any decode decodeNumber
 name-accepted =
     let byte : 3 < 256 = omega arith in
     let letter : 0x41 < 256 = omega arith in

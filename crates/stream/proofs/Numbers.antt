@@ -8,76 +8,69 @@ use native.Mathlib.Omega.{arith}
 use lib.ListN.{length, take, drop}
 use lib.Dec.{ltb}
 use Rattle.format.specs.Format.{Value, Read, got, refused, pick, decode}
+use Rattle.format.specs.Fault.{any}
+use Rattle.format.specs.Refusals.{refusals, isOneOf}
 use Rattle.format.specs.View.{View, view, placed}
 use Rattle.format.specs.Walk.{Step}
 use Rattle.format.proofs.Walks.{Steps, stops, goes, walk-ends}
 use Rattle.format.proofs.Copies.{cstring-copies, ucs2-copies, numbers-copies}
-use Rattle.format.proofs.Refusal.{codesWithin, Refuses, reads, refuses, refused-with, decode-refuses}
+use Rattle.format.proofs.Refusal.{Refuses, reads, refuses, refused-with, decode-refuses, decode-number}
 use Rattle.protocol.specs.Layer.{Layer, headerLength, layerOf, header, layerHeader, sizeField, countField, partField, layerField}
-use Rattle.protocol.specs.Kind.{Kind, bodyOf, kindOf, sameKind}
-use Rattle.protocol.specs.Kind.{FixtureList}
-use Rattle.protocol.proofs.Every.{every, every-kind}
+use Rattle.protocol.specs.Kind.{Kind, bodyOf, kindOf}
+use Rattle.protocol.proofs.Every.{every, every-all, every-kind}
 use Rattle.protocol.specs.Step.{Content, message, unknown, fragment, refusal, Report, bodySeen, bodyAs, readBody, contentOf, readLayerHeader, readLayer}
 use Rattle.protocol.specs.Step.{contentAt, stepAt, walk}
 use Rattle.protocol.proofs.Steps.{Does, halts, tells, step-does, stopped, reported}
 use Rattle.writing.proofs.Taken.{call-numbers as one-call}
 use Rattle.stream.specs.Claims as claims
-use Rattle.stream.specs.Claims.{highest}
+use Rattle.stream.specs.Claims.{packetRefusals}
 
 -- ---- bodies
 
-codes-within : (k : Kind) → codesWithin (highest k) (bodyOf k) ≡ true
-unfolding every
-codes-within k = every-kind (λ j. codesWithin (highest j) (bodyOf j)) refl k
-
-between : (b : Bool) → (8 ≤ pick b 10 8) × (pick b 10 8 ≤ 10)
-between true = omega arith
-between false = omega arith
-
-at-least : (k : Kind) → 8 ≤ highest k
-at-least k = between (sameKind k FixtureList) .0
-
-at-most : (k : Kind) → highest k ≤ 10
-at-most k = between (sameKind k FixtureList) .1
-
 pub body-numbers : claims.BodyNumbers
-body-numbers k s n e = refused-with (decode-refuses (highest k) (at-least k) (bodyOf k) (codes-within k) s) e
+body-numbers k s n e = refused-with (decode-number (bodyOf k) s) e
 
 -- ---- the step
 
--- a refused packet's number is 6 to 10
+-- a refused packet's number is 6 to 10 or 19
 abbrev Row : Content View → Type 0
 Row (message k start hint v added) = Unit {0}
 Row (unknown c t) = Unit {0}
 Row (fragment p n) = Unit {0}
-Row (refusal n) = (6 ≤ n) × (n ≤ 10)
+Row (refusal n) = isOneOf packetRefusals n ≡ true
+
+body-row : (k : Kind) (s : List ℕ) → Refuses (λ n. isOneOf packetRefusals n ≡ true) (decode (bodyOf k) s)
+unfolding every any
+body-row k s =
+    decode-refuses (λ n. isOneOf packetRefusals n ≡ true) (bodyOf k)
+    (every-all (isOneOf packetRefusals) (refusals (bodyOf k)) (every-kind (λ j. every (isOneOf packetRefusals) (refusals (bodyOf j))) refl k)) s
 
 row-pick : (b : Bool) (x y : Content View) → Row x → Row y → Row (pick b x y)
 row-pick true x y h k = h
 row-pick false x y h k = k
 
-row-seen : (l : Layer) (start extent type hint : ℕ) (k : Kind) (r : Read (Value (bodyOf k))) → Refuses (λ n. (7 ≤ n) × (n ≤ highest k)) r
+row-seen : (l : Layer) (start extent type hint : ℕ) (k : Kind) (r : Read (Value (bodyOf k))) → Refuses (λ n. isOneOf packetRefusals n ≡ true) r
     → Row (contentOf l start extent type hint (bodySeen k (placed (bodyOf k) 0 r)))
 unfolding placed
 row-seen l start extent type hint k r reads = tt
-row-seen l start extent type hint k r (refuses h) = (omega (arith, h .0), omega (arith, h .1, at-most k))
+row-seen l start extent type hint k r (refuses h) = h
 
 row-body : (l : Layer) (start extent type hint : ℕ) (s : List ℕ) (x : Option Kind) → Row (contentOf l start extent type hint (bodyAs x s))
 unfolding view
 row-body l start extent type hint s none = tt
 row-body l start extent type hint s (some k) =
-    row-seen l start extent type hint k (decode (bodyOf k) (drop 0 s)) (decode-refuses (highest k) (at-least k) (bodyOf k) (codes-within k) (drop 0 s))
+    row-seen l start extent type hint k (decode (bodyOf k) (drop 0 s)) (body-row k (drop 0 s))
 
 row-header : (l : Layer) (at : ℕ) (p : List ℕ) (x : Read (Value (layerHeader l))) → Row (readLayerHeader l at p x)
-unfolding readBody
+unfolding readBody any
 row-header l at p (got t rest) = row-body l (at + headerLength l) (length p - headerLength l) (t .0) (t .1) (drop (headerLength l) p) (kindOf l (t .0))
-row-header l at p (refused n) = omega arith
+row-header l at p (refused n) = refl
 
 row-layer : (at c : ℕ) (p : List ℕ) (x : Option Layer) → Row (readLayer at c p x)
+unfolding any
 row-layer at c p none = tt
 row-layer at c p (some l) =
-    let six : Row (refusal 6) = omega arith in
-    row-pick (ltb (length p) (headerLength l)) (refusal 6) (readLayerHeader l at p (decode (layerHeader l) (drop 20 p))) six
+    row-pick (ltb (length p) (headerLength l)) (refusal 6) (readLayerHeader l at p (decode (layerHeader l) (drop 20 p))) refl
     (row-header l at p (decode (layerHeader l) (drop 20 p)))
 
 row-content : (at : ℕ) (h : Value header) (p : List ℕ) → Row (contentAt at h p)

@@ -14,7 +14,7 @@ use Rattle.format.proofs.Lists.{concatMap-append, concatMap-map, all-append, al
 use Rattle.protocol.specs.Kind.{bodyOf}
 use Rattle.protocol.specs.Message.{Message, headersOf, packetSize, packet, Sendable}
 use Rattle.protocol.proofs.Headers.{length-headers, size-stored, size-read}
-use Rattle.writing.specs.Call.{Call, opens, give, closes, Typed, bytesOf, zeroIn, tooLongIn, partBytes, partsOf, callsOf}
+use Rattle.writing.specs.Call.{Call, opens, give, closes, Typed, bytesOf, zeroIn, overLimitIn, tooLongIn, partBytes, partsOf, callsOf}
 use Rattle.writing.specs.Writer.{Turn, idle, bodyDue, itemsDue, partsDue, isIdle, isClose, Writer, Outcome, Progress, noted, note, step, run, settled}
 use Rattle.writing.proofs.Taken.{Taken, taken, call-cases}
 use Rattle.stream.specs.Accepted.{after, closing, sizeIn, closedBytes}
@@ -47,9 +47,9 @@ stand-as {at} {o} s e = subst (Stands at o) e s
 
 -- ---- what holds of an open state, its output and the taken calls
 
--- refused neither 11 nor 12, of the types promised
+-- refused neither 11 nor 19 nor 12, of the types promised
 abbrev pub Fine : Call → Type 0
-Fine c = Typed c × (zeroIn c ≡ false) × (tooLongIn c ≡ false)
+Fine c = Typed c × (zeroIn c ≡ false) × (overLimitIn c ≡ false) × (tooLongIn c ≡ false)
 
 -- the bytes of the taken calls stand first, each call was fine, and they are those of whose turn it is
 pub record Inv (w : Writer) (o : List ℕ) (cs : List Call) : Type 0 where
@@ -69,14 +69,14 @@ taken-kept : (c : Call) (w : Writer) (o : List ℕ) (cs : List Call) → Typed c
 unfolding concatMap
 taken-kept (opens k r q) w o cs ty h t z = record {
   stands = stand-as (stand-more (bytesOf (opens k r q)) (stand-none o) (t .has-room)) (sym (append-nil (bytesOf (opens k r q))));
-  fine = ((ty, refl, refl), tt);
+  fine = ((ty, refl, refl, refl), tt);
   shape = opened r q refl;
 }
 taken-kept (give p) w o cs ty h t z =
     let i = h (part-not-idle p (w .turn) (t .in-turn)) in
     record {
       stands = stand-as (stand-more (partBytes p) (i .stands) (t .has-room)) (one-more cs (give p));
-      fine = all-append Fine cs (give p ∷ []) (i .fine) ((ty, t .no-zero, t .not-long), tt);
+      fine = all-append Fine cs (give p ∷ []) (i .fine) ((ty, t .no-zero, t .not-over, t .not-long), tt);
       shape = shape-kept p (w .turn) cs (t .in-turn) (i .shape);
     }
 taken-kept closes w o cs ty h t z = absurd (true≢false z)

@@ -1,45 +1,48 @@
 -- The claims, from top to bottom: the theorems of the three demands, as statements. Each is proved under its name in the file of proofs/ named beside it.
 use Prim.Native.Nat.{ℕ, _≤_}
 use mathlib.Core.Path.{_≡_}
+use mathlib.Core.Bool.{true}
 use mathlib.Core.Logic.{_⊎_}
 use mathlib.Core.List.{List, [], _∷_, _++_, map}
 use mathlib.Core.Option.{Option, some}
 use lib.ListN.{length}
-use Rattle.format.specs.Format.{Value, pick, got, refused, decode, encode, size, All, Bytes, Valid}
+use Rattle.format.specs.Format.{Value, got, refused, decode, encode, size, All, Bytes, Valid}
+use Rattle.format.specs.Refusals.{refusals, isOneOf}
 use Rattle.format.specs.View.{View, seen, view, place, look}
 use Rattle.format.specs.Copy.{copyCString, copyUcs2, copyNumbers, Copies}
 use Rattle.format.specs.Walk.{stop, report, reports, keep, Ended}
 use Rattle.protocol.specs.Layer.{header, minorField, countField, partField}
-use Rattle.protocol.specs.Kind.{Kind, FixtureList, bodyOf, sameKind}
+use Rattle.protocol.specs.Kind.{Kind, bodyOf}
 use Rattle.protocol.specs.Step as reported
 use Rattle.protocol.specs.Step.{Report, stepAt, walk, looked}
 use Rattle.protocol.specs.Message.{Message, Sendable, packet}
 use Rattle.writing.specs.Call.{Call, Typed}
-use Rattle.writing.specs.Writer.{Writer, idle, apply}
+use Rattle.writing.specs.Writer.{Writer, idle, apply, callRefusals}
 use Rattle.stream.specs.Accepted.{after, closing, Closed, Accepted}
 use Rattle.stream.specs.Packets.{Packet, message, bytes, Admissible, stream, expected, Struck, messageAlike}
 
 -- ---- demand 1: bad input gets one number of the table, and a refused call keeps state and output
 
--- the highest number with which a kind's body can be refused
-abbrev pub highest : Kind → ℕ
-highest k = pick (sameKind k FixtureList) 10 8
-
--- body-numbers (Numbers): a body is refused with 7 or 8, a fixture list also with 9 or 10
+-- body-numbers (Numbers): a body is refused with a number of its format: 7 in numbers and counts, 8 or 19 in strings, 9 or 10 in type bytes
 abbrev pub BodyNumbers : Type 0
-BodyNumbers = (k : Kind) (s : List ℕ) (n : ℕ) → decode (bodyOf k) s ≡ refused n → (7 ≤ n) × (n ≤ highest k)
+BodyNumbers = (k : Kind) (s : List ℕ) (n : ℕ) → decode (bodyOf k) s ≡ refused n → isOneOf (refusals (bodyOf k)) n ≡ true
 
--- step-numbers (Numbers): a step stops with 0 to 5, at its own offset, and a packet is refused with 6 to 10
+-- the numbers with which a packet is refused
+abbrev pub packetRefusals : List ℕ
+packetRefusals = 6 ∷ 7 ∷ 8 ∷ 9 ∷ 10 ∷ 19 ∷ []
+
+-- step-numbers (Numbers): a step stops with 0 to 5, at its own offset, and a packet is refused with 6 to 10 or 19
 abbrev pub StepNumbers : Type 0
 StepNumbers = (s : List ℕ) (at : ℕ) → ((n o : ℕ) → stepAt s at ≡ stop n o → (n ≤ 5) × (o ≡ at))
-    × ((r : Report View) (next n : ℕ) → stepAt s at ≡ report r next → r .content ≡ reported.refusal n → (6 ≤ n) × (n ≤ 10))
+    × ((r : Report View) (next n : ℕ) → stepAt s at ≡ report r next → r .content ≡ reported.refusal n → isOneOf packetRefusals n ≡ true)
 
--- call-numbers (Numbers): a call is taken with 0, or refused with 11 to 15 and leaves state and output as they were
+-- call-numbers (Numbers): a call is taken with 0, or refused with 11 to 15 or 19 and leaves state and output as they were
 abbrev pub CallNumbers : Type 0
 CallNumbers = (c : Call) (w : Writer) (o : List ℕ)
-    → (apply c w o .number ≡ 0) ⊎ ((11 ≤ apply c w o .number) × (apply c w o .number ≤ 15) × (apply c w o .writer ≡ w) × (apply c w o .output ≡ o))
+    → (apply c w o .number ≡ 0)
+    ⊎ ((isOneOf callRefusals (apply c w o .number) ≡ true) × (apply c w o .writer ≡ w) × (apply c w o .output ≡ o))
 
--- copy-numbers (Numbers): a copy is taken, or refused, a string's with 8 or 13, a list's with 7 or 13, and leaves the lent output as it was
+-- copy-numbers (Numbers): a copy is taken, or refused with the output as it was, a string's with 8 or 13, never 19, a list's with 7 or 13
 abbrev pub CopyNumbers : Type 0
 CopyNumbers = (s : List ℕ) (at : ℕ) (out : List ℕ)
     → Copies 8 out (copyCString s at out) × Copies 8 out (copyUcs2 s at out) × ((w n : ℕ) → Copies 7 out (copyNumbers w s at n out))

@@ -296,10 +296,11 @@ fn put_layer_header(out: &mut [u8], at: usize, kind: Kind, content_hint: u32) ->
 
 // Base header and layer header at the output's first byte; the size field is 0.
 pub fn write_headers(out: &mut [u8], kind: Kind, request_index: u16, content_hint: u32) -> Put
-    ensures { λ r. ⌜ (r, now (out .exit)) ≡ putJudged false false (header & layerHeader (layer (kindIs kind))) (headerOf (layer (kindIs kind)) 0 «request_index», (contentType (kindIs kind), «content_hint»)) 0 (now (out .entry)) ⌝ }
+    ensures { λ r. ⌜ (r, now (out .exit)) ≡ putJudged false false false (header & layerHeader (layer (kindIs kind)))
+        (headerOf (layer (kindIs kind)) 0 «request_index», (contentType (kindIs kind), «content_hint»)) 0 (now (out .entry)) ⌝ }
 {
     let layer = kind.figures().layer;
-    let number = weigh(false, false, 0, layer.header_length(), out.len());
+    let number = weigh(false, false, false, 0, layer.header_length(), out.len());
     if number != 0 {
         return Put { number, at: 0 };
     }

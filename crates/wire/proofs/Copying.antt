@@ -12,10 +12,11 @@ use Rattle.format.specs.Format.{number, Read, got, refused, decodeItems, decode
 use Rattle.format.specs.View.{unitsOf}
 use Rattle.format.specs.Copy.{took, denied, copied, copyCString, copyUcs2, copyNumbers}
 use Rattle.format.proofs.Passing.{items-short}
-use Rattle.search.specs.Zero.{beforeZero, unitsBeforeZero}
+use Rattle.format.proofs.Copies.{cstring-whole, ucs2-whole}
+use Rattle.search.specs.Zero.{beforeZero, unitsToZero, none}
 use Rattle.search.proofs.Zero.{units-within}
 use Rattle.wire.proofs.Numbers.{numberAt, numbersAt, numbers-decoded, numbers-length, number-of}
-use Rattle.wire.proofs.Strings.{cstring-ends, cstring-unended, ucs2-ends, ucs2-unended, length-units}
+use Rattle.wire.proofs.Strings.{cstring-ends, cstring-unended, ucs2-ends, ucs2-unended, length-units, units-ended, units-unended}
 
 -- one element more of xs stands first in the output
 copy-more : (out xs : List ℕ) (i : ℕ) → i < length xs → i < length out →
@@ -58,38 +59,42 @@ module _ (s : List ℕ) (at : ℕ) (out : List ℕ) {end : ℕ} (e : end ≡ at 
   length-read h = length-take-le (end - at) (drop at s) (omega (arith, length-drop at s))
 
   pub cstring-8 : length s ≤ end → (denied 8, out) ≡ copyCString s at out
-  unfolding copyCString decode
-  cstring-8 h = not-read (decodeCString (drop at s)) out (cstring-unended (drop at s) (omega (arith, length-drop at s)))
+  unfolding copyCString
+  cstring-8 h = rw (cstring-whole s at) (not-read (decodeCString (drop at s)) out (cstring-unended (drop at s) (omega (arith, length-drop at s))))
 
   pub cstring-13 : end < length s → length out < end - at → (denied 13, out) ≡ copyCString s at out
-  unfolding copyCString decode
-  cstring-13 h l = too-long (decodeCString (drop at s)) out (end - at) (bytes-read h) (length-read h) l
+  unfolding copyCString
+  cstring-13 h l = rw (cstring-whole s at) (too-long (decodeCString (drop at s)) out (end - at) (bytes-read h) (length-read h) l)
 
   pub cstring-copied : {o : List ℕ} → end < length s → end - at ≤ length out →
       o ≡ take (end - at) (drop at s) ++ drop (end - at) out → (took (end - at), o) ≡ copyCString s at out
-  unfolding copyCString decode
-  cstring-copied h l p = taken (decodeCString (drop at s)) out (end - at) (bytes-read h) (length-read h) l p
+  unfolding copyCString
+  cstring-copied h l p = rw (cstring-whole s at) (taken (decodeCString (drop at s)) out (end - at) (bytes-read h) (length-read h) l p)
 
--- a string of n units
-module _ (s : List ℕ) (at : ℕ) (out : List ℕ) {n : ℕ} (e : n ≡ unitsBeforeZero (drop at s)) where
-  units-read : 2 ≤ length s - (at + 2 * n) → decodeUcs2 (drop at s) ≡ got (unitsOf n (drop at s)) (drop (2 * n + 2) (drop at s))
-  units-read h = rw e (ucs2-ends (drop at s) (omega (arith, length-drop at s)))
+-- a string of n units, or without an end
+pub ucs2-8 : (s : List ℕ) (at : ℕ) (out : List ℕ) {n : ℕ} → length s ≤ none → n ≡ unitsToZero (drop at s) → n ≡ none → (denied 8, out) ≡ copyUcs2 s at out
+unfolding copyUcs2
+ucs2-8 s at out fits e h = rw (ucs2-whole s at) (not-read (decodeUcs2 (drop at s)) out (ucs2-unended (drop at s) (units-unended s at fits e h)))
+
+module _ (s : List ℕ) (at : ℕ) (out : List ℕ) {n : ℕ} (e : n ≡ unitsToZero (drop at s)) (h : n ≡ none → ⊥) where
+  units-read : decodeUcs2 (drop at s) ≡ got (unitsOf n (drop at s)) (drop (2 * n + 2) (drop at s))
+  units-read =
+      let t = units-ended s at e h in
+      rw (t .0) (ucs2-ends (drop at s) (omega (arith, t .0, t .1, length-drop at s)))
 
   units-length : length (unitsOf n (drop at s)) ≡ n
-  units-length = length-units n (drop at s) (omega (arith, units-within (drop at s)))
+  units-length = length-units n (drop at s) (omega (arith, units-ended s at e h .0, units-within (drop at s)))
 
-  pub ucs2-8 : length s - (at + 2 * n) < 2 → (denied 8, out) ≡ copyUcs2 s at out
-  unfolding copyUcs2 decode
-  ucs2-8 h = not-read (decodeUcs2 (drop at s)) out (ucs2-unended (drop at s) (omega (arith, length-drop at s)))
+  pub units-room : 2 * n ≤ length s - at
+  units-room = omega (arith, units-ended s at e h .0, units-within (drop at s), length-drop at s)
 
-  pub ucs2-13 : 2 ≤ length s - (at + 2 * n) → length out < n → (denied 13, out) ≡ copyUcs2 s at out
-  unfolding copyUcs2 decode
-  ucs2-13 h l = too-long (decodeUcs2 (drop at s)) out n (units-read h) units-length l
+  pub ucs2-13 : length out < n → (denied 13, out) ≡ copyUcs2 s at out
+  unfolding copyUcs2
+  ucs2-13 l = rw (ucs2-whole s at) (too-long (decodeUcs2 (drop at s)) out n units-read units-length l)
 
-  pub ucs2-copied : {o : List ℕ} → 2 ≤ length s - (at + 2 * n) → n ≤ length out →
-      o ≡ unitsOf n (drop at s) ++ drop n out → (took n, o) ≡ copyUcs2 s at out
-  unfolding copyUcs2 decode
-  ucs2-copied h l p = taken (decodeUcs2 (drop at s)) out n (units-read h) units-length l p
+  pub ucs2-copied : {o : List ℕ} → n ≤ length out → o ≡ unitsOf n (drop at s) ++ drop n out → (took n, o) ≡ copyUcs2 s at out
+  unfolding copyUcs2
+  ucs2-copied l p = rw (ucs2-whole s at) (taken (decodeUcs2 (drop at s)) out n units-read units-length l p)
 
 -- a list of n numbers of w bytes
 module _ (w : ℕ) (s : List ℕ) (at n : ℕ) (out : List ℕ) where

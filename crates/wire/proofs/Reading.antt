@@ -7,7 +7,7 @@ use borrow.Author.Needs as kit
 use Rattle.format.specs.Format.{Format, number, cstring, ucs2, list, _&_}
 use Rattle.format.specs.View.{View, Seen, seen, missed, view}
 use Rattle.format.proofs.Views.{after, view-pair}
-use Rattle.wire.specs.Says.{u8Says, u16Says, u32Says, cstringSays, ucs2Says, blockSays, u16ListSays, u32ListSays}
+use Rattle.wire.specs.Says.{u8Says, u16Says, u32Says, cstringSays, cstringNumber, ucs2Says, ucs2Number, blockSays, u16ListSays, u32ListSays}
 use Rattle.wire.specs.declared.Cursor.{Cursor}
 use Rattle.wire.specs.declared.CString.{CString}
 use Rattle.wire.specs.declared.Ucs2.{Ucs2}
@@ -75,6 +75,26 @@ module _ (f : Format) {R : Type 0} (says : R → Seen (View f)) (short : R) (k :
   pub last-short : LastShort f says short k
   last-short s at r t i = sym (fell s at r t i)
 
+-- the same of an answer that has the number of its refusal: `refused n`, whose `number` is n
+module _ (f : Format) {R : Type 0} (says : R → Seen (View f)) (refused : ℕ → R) (number-of : R → ℕ) where
+  abbrev pub FieldNumber : Type 0
+  FieldNumber = (g : Format) (s : List ℕ) (at k : ℕ) (r : R) (n : ℕ) → says r ≡ view f s at → r ≡ refused n → k ≡ number-of r → missed k ≡ view (f & g) s at
+
+  abbrev pub LastNumber : Type 0
+  LastNumber = (s : List ℕ) (at k : ℕ) (r : R) (n : ℕ) → says r ≡ view f s at → r ≡ refused n → k ≡ number-of r → missed k ≡ view f s at
+
+module _ (f : Format) {R : Type 0} (says : R → Seen (View f)) (refused : ℕ → R) (number-of : R → ℕ)
+    (means : (n : ℕ) → says (refused n) ≡ missed n) (counts : (n : ℕ) → number-of (refused n) ≡ n) where
+  numbered : (s : List ℕ) (at k : ℕ) (r : R) (n : ℕ) → says r ≡ view f s at → r ≡ refused n → k ≡ number-of r → view f s at ≡ missed k
+  numbered s at k r n t i e = sym t ∙ ap says i ∙ means n ∙ ap (λ (j : ℕ). missed j) (sym (e ∙ ap number-of i ∙ counts n))
+
+  pub field-number : FieldNumber f says refused number-of
+  unfolding after
+  field-number g s at k r n t i e = rw (view-pair f g s at, numbered s at k r n t i e) refl
+
+  pub last-number : LastNumber f says refused number-of
+  last-number s at k r n t i e = sym (numbered s at k r n t i e)
+
 -- ---- of each leaf; a ruleset takes declared names alone
 
 abbrev pub cstringRange : CString → ℕ × ℕ
@@ -131,35 +151,35 @@ u32-short = field-short (number 4) u32Says u32.Short 7 refl
 pub u32-none : LastShort (number 4) u32Says u32.Short 7
 u32-none = last-short (number 4) u32Says u32.Short 7 refl
 
-pub cstring-missed : FieldMissed cstring cstringSays cstring-read.Read cstringRange
-cstring-missed = field-missed cstring cstringSays cstring-read.Read cstringRange (λ a c. refl)
+pub cstring-missed : (m : ℕ) → FieldMissed (cstring m) cstringSays cstring-read.Read cstringRange
+cstring-missed m = field-missed (cstring m) cstringSays cstring-read.Read cstringRange (λ a c. refl)
 
-pub cstring-seen : FieldSeen cstring cstringSays cstring-read.Read cstringRange
-cstring-seen = field-seen cstring cstringSays cstring-read.Read cstringRange (λ a c. refl)
+pub cstring-seen : (m : ℕ) → FieldSeen (cstring m) cstringSays cstring-read.Read cstringRange
+cstring-seen m = field-seen (cstring m) cstringSays cstring-read.Read cstringRange (λ a c. refl)
 
-pub cstring-last : LastSeen cstring cstringSays cstring-read.Read cstringRange
-cstring-last = last-seen cstring cstringSays cstring-read.Read cstringRange (λ a c. refl)
+pub cstring-last : (m : ℕ) → LastSeen (cstring m) cstringSays cstring-read.Read cstringRange
+cstring-last m = last-seen (cstring m) cstringSays cstring-read.Read cstringRange (λ a c. refl)
 
-pub cstring-short : FieldShort cstring cstringSays cstring-read.Unended 8
-cstring-short = field-short cstring cstringSays cstring-read.Unended 8 refl
+pub cstring-number : (m : ℕ) → FieldNumber (cstring m) cstringSays cstring-read.Refused cstringNumber
+cstring-number m = field-number (cstring m) cstringSays cstring-read.Refused cstringNumber (λ n. refl) (λ n. refl)
 
-pub cstring-none : LastShort cstring cstringSays cstring-read.Unended 8
-cstring-none = last-short cstring cstringSays cstring-read.Unended 8 refl
+pub cstring-none : (m : ℕ) → LastNumber (cstring m) cstringSays cstring-read.Refused cstringNumber
+cstring-none m = last-number (cstring m) cstringSays cstring-read.Refused cstringNumber (λ n. refl) (λ n. refl)
 
-pub ucs2-missed : FieldMissed ucs2 ucs2Says ucs2-read.Read ucs2Range
-ucs2-missed = field-missed ucs2 ucs2Says ucs2-read.Read ucs2Range (λ a c. refl)
+pub ucs2-missed : (m : ℕ) → FieldMissed (ucs2 m) ucs2Says ucs2-read.Read ucs2Range
+ucs2-missed m = field-missed (ucs2 m) ucs2Says ucs2-read.Read ucs2Range (λ a c. refl)
 
-pub ucs2-seen : FieldSeen ucs2 ucs2Says ucs2-read.Read ucs2Range
-ucs2-seen = field-seen ucs2 ucs2Says ucs2-read.Read ucs2Range (λ a c. refl)
+pub ucs2-seen : (m : ℕ) → FieldSeen (ucs2 m) ucs2Says ucs2-read.Read ucs2Range
+ucs2-seen m = field-seen (ucs2 m) ucs2Says ucs2-read.Read ucs2Range (λ a c. refl)
 
-pub ucs2-last : LastSeen ucs2 ucs2Says ucs2-read.Read ucs2Range
-ucs2-last = last-seen ucs2 ucs2Says ucs2-read.Read ucs2Range (λ a c. refl)
+pub ucs2-last : (m : ℕ) → LastSeen (ucs2 m) ucs2Says ucs2-read.Read ucs2Range
+ucs2-last m = last-seen (ucs2 m) ucs2Says ucs2-read.Read ucs2Range (λ a c. refl)
 
-pub ucs2-short : FieldShort ucs2 ucs2Says ucs2-read.Unended 8
-ucs2-short = field-short ucs2 ucs2Says ucs2-read.Unended 8 refl
+pub ucs2-number : (m : ℕ) → FieldNumber (ucs2 m) ucs2Says ucs2-read.Refused ucs2Number
+ucs2-number m = field-number (ucs2 m) ucs2Says ucs2-read.Refused ucs2Number (λ n. refl) (λ n. refl)
 
-pub ucs2-none : LastShort ucs2 ucs2Says ucs2-read.Unended 8
-ucs2-none = last-short ucs2 ucs2Says ucs2-read.Unended 8 refl
+pub ucs2-none : (m : ℕ) → LastNumber (ucs2 m) ucs2Says ucs2-read.Refused ucs2Number
+ucs2-none m = last-number (ucs2 m) ucs2Says ucs2-read.Refused ucs2Number (λ n. refl) (λ n. refl)
 
 pub block-last : LastSeen (list 2 (number 1)) blockSays block.Read blockRange
 block-last = last-seen (list 2 (number 1)) blockSays block.Read blockRange (λ a c. refl)
@@ -180,6 +200,36 @@ pub u32-list-none : LastShort (list 2 (number 4)) u32ListSays u32List.Short 7
 u32-list-none = last-short (list 2 (number 4)) u32ListSays u32List.Short 7 refl
 
 -- the rules of reading alone, and with the kit's: what `search` is given at a reader's needs
-pub ruleset reading = (u8-missed, u8-seen, u8-last, u8-short, u8-none, u16-missed, u16-seen, u16-short, u32-missed, u32-seen, u32-last, u32-short, u32-none, cstring-missed, cstring-seen, cstring-last, cstring-short, cstring-none, ucs2-missed, ucs2-seen, ucs2-last, ucs2-short, ucs2-none, block-last, block-none, u16-list-last, u16-list-none, u32-list-last, u32-list-none)
+pub ruleset reading = (
+  u8-missed,
+  u8-seen,
+  u8-last,
+  u8-short,
+  u8-none,
+  u16-missed,
+  u16-seen,
+  u16-short,
+  u32-missed,
+  u32-seen,
+  u32-last,
+  u32-short,
+  u32-none,
+  cstring-missed,
+  cstring-seen,
+  cstring-last,
+  cstring-number,
+  cstring-none,
+  ucs2-missed,
+  ucs2-seen,
+  ucs2-last,
+  ucs2-number,
+  ucs2-none,
+  block-last,
+  block-none,
+  u16-list-last,
+  u16-list-none,
+  u32-list-last,
+  u32-list-none,
+)
 
 pub ruleset needs = (kit.needs, reading)

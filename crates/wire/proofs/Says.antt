@@ -82,11 +82,11 @@ u16-exact = elim [ u16.Read x c ↦ refl | u16.Short ↦ refl ]
 pub u32-exact : (r : U32Read) → r ≡ readBy u32.Read (λ k. u32.Short) same (u32Says r)
 u32-exact = elim [ u32.Read x c ↦ refl | u32.Short ↦ refl ]
 
-pub cstring-exact : (r : CStringRead) → r ≡ readBy cstring.Read (λ k. cstring.Unended) cstringOf (cstringSays r)
-cstring-exact = elim [ cstring.Read x c ↦ refl | cstring.Unended ↦ refl ]
+pub cstring-exact : (r : CStringRead) → r ≡ readBy cstring.Read cstring.Refused cstringOf (cstringSays r)
+cstring-exact = elim [ cstring.Read x c ↦ refl | cstring.Refused k ↦ refl ]
 
-pub ucs2-exact : (r : Ucs2Read) → r ≡ readBy ucs2.Read (λ k. ucs2.Unended) ucs2Of (ucs2Says r)
-ucs2-exact = elim [ ucs2.Read x c ↦ refl | ucs2.Unended ↦ refl ]
+pub ucs2-exact : (r : Ucs2Read) → r ≡ readBy ucs2.Read ucs2.Refused ucs2Of (ucs2Says r)
+ucs2-exact = elim [ ucs2.Read x c ↦ refl | ucs2.Refused k ↦ refl ]
 
 pub block-exact : (r : BlockRead) → r ≡ readBy block.Read (λ k. block.Short) blockOf (blockSays r)
 block-exact = elim [ block.Read x c ↦ refl | block.Short ↦ refl ]

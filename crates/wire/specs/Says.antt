@@ -43,11 +43,20 @@ u32Says u32.Short = missed 7
 
 abbrev pub cstringSays : CStringRead → Seen (ℕ × ℕ)
 cstringSays (cstring.Read x c) = seen (x .start, x .len) (c .at)
-cstringSays cstring.Unended = missed 8
+cstringSays (cstring.Refused n) = missed n
+
+-- the number of the refusal, or 0
+abbrev pub cstringNumber : CStringRead → ℕ
+cstringNumber (cstring.Read x c) = 0
+cstringNumber (cstring.Refused n) = n
 
 abbrev pub ucs2Says : Ucs2Read → Seen (ℕ × ℕ)
 ucs2Says (ucs2.Read x c) = seen (x .start, x .len) (c .at)
-ucs2Says ucs2.Unended = missed 8
+ucs2Says (ucs2.Refused n) = missed n
+
+abbrev pub ucs2Number : Ucs2Read → ℕ
+ucs2Number (ucs2.Read x c) = 0
+ucs2Number (ucs2.Refused n) = n
 
 abbrev pub blockSays : BlockRead → Seen (ℕ × ℕ)
 blockSays (block.Read x c) = seen (x .start, x .len) (c .at)

@@ -1,19 +1,24 @@
 // The fields of a body, read at a cursor: numbers by value; strings, blocks and lists by their place in the body. Strings and lists of numbers copied out of it.
-ghost use Prim.Native.Nat.{_+_, _*_, _-_, _≤_};
+ghost use Prim.Native.Nat.{_+_, _*_, _-_, _≤_, min};
 ghost use mathlib.Core.Path.{_≡_};
 ghost use mathlib.Core.List.{_++_};
 ghost use lib.ListN.{length, take, drop};
-ghost use lib.Dec.{leb};
-ghost use Rattle.format.specs.Format.{number, cstring, ucs2, list};
+ghost use lib.Dec.{leb, eqb};
+ghost use Rattle.format.specs.Format.{number, cstring, ucs2, list, pick};
+ghost use Rattle.search.specs.Zero.{none};
 ghost use Rattle.format.specs.View.{view, stepped, unitsOf};
 ghost use Rattle.format.specs.Passed.{room};
 ghost use Rattle.format.specs.Copy.{took, copyCString, copyUcs2, copyNumbers};
 ghost use Rattle.wire.specs.Items.{itemsAt};
-ghost use Rattle.wire.specs.Says.{u8Says, u16Says, u32Says, cstringSays, ucs2Says, blockSays, skipSays};
+ghost use Rattle.wire.specs.Says.{u8Says, u16Says, u32Says, cstringSays, cstringNumber, ucs2Says, ucs2Number, blockSays, skipSays};
 ghost use Rattle.wire.specs.Says.{u16ListSays, u32ListSays, itemsSays, u16NextSays, u32NextSays, copiedSays};
+use search::NONE;
+use search::bytes_before_zero;
 use search::first_zero;
-use search::first_zero_near;
 use search::units_before_zero;
+
+// The bytes or units of the longest name: what the rack's display holds.
+pub const NAME_LIMIT: usize = 255;
 
 // ---- what is read
 
@@ -55,7 +60,7 @@ pub struct Items {
     pub left: u16,
 }
 
-// ---- answers: what was read and the cursor behind it, or the refusal; `Short` is 7, `Unended` 8
+// ---- answers: what was read and the cursor behind it, or the refusal; `Short` is 7, a string's 8 or 19
 
 pub enum U8Read {
     Read(u8, Cursor),
@@ -74,12 +79,12 @@ pub enum U32Read {
 
 pub enum CStringRead {
     Read(CString, Cursor),
-    Unended,
+    Refused(u8),
 }
 
 pub enum Ucs2Read {
     Read(Ucs2, Cursor),
-    Unended,
+    Refused(u8),
 }
 
 pub enum BlockRead {
@@ -135,6 +140,20 @@ fn left_from(body: &[u8], at: usize) -> usize
     if at < body.len() { body.len() - at } else { 0 }
 }
 
+// The most that a string's count may be. A count of a string without an end, NONE, is above it whatever the limit: so one test tells both.
+fn longest(limit: usize) -> usize
+    ensures { λ r. ⌜ r ≡ min limit 18446744073709551614 ⌝ }
+{
+    if limit < NONE { limit } else { NONE - 1 }
+}
+
+// The number of a string that has no end, or a count above its limit.
+fn refusal(count: usize) -> u8
+    ensures { λ r. ⌜ r ≡ pick (eqb count none) 8 19 ⌝ }
+{
+    if count == NONE { 8 } else { 19 }
+}
+
 // Two bytes as a number, the low one first.
 fn join_2(a: u8, b: u8) -> u16
     ensures { λ r. ⌜ r ≡ a + 256 * b ⌝ }
@@ -157,6 +176,30 @@ fn fit(count: u16, width: usize, bytes: usize) -> bool
         return n * width <= bytes;
     }
     n <= bytes / width
+}
+
+// ---- the number of a string's refusal; 0 if it was read
+
+impl CStringRead {
+    pub fn number(self) -> u8
+        ensures { λ r. ⌜ r ≡ cstringNumber self ⌝ }
+    {
+        match self {
+            CStringRead::Read(_, _) => 0,
+            CStringRead::Refused(n) => n,
+        }
+    }
+}
+
+impl Ucs2Read {
+    pub fn number(self) -> u8
+        ensures { λ r. ⌜ r ≡ ucs2Number self ⌝ }
+    {
+        match self {
+            Ucs2Read::Read(_, _) => 0,
+            Ucs2Read::Refused(n) => n,
+        }
+    }
 }
 
 // ---- reading
@@ -193,30 +236,28 @@ impl Cursor {
         U32Read::Short
     }
 
-    // Bytes up to a zero byte.
-    pub fn cstring(self, body: &[u8]) -> CStringRead
-        ensures { λ r. ⌜ cstringSays r ≡ view cstring (now (body .entry)) (self .at) ⌝ }
+    // Bytes up to a zero byte, at most `limit` of them.
+    pub fn cstring(self, body: &[u8], limit: usize) -> CStringRead
+        ensures { λ r. ⌜ cstringSays r ≡ view (cstring limit) (now (body .entry)) (self .at) ⌝ }
     {
         let at = self.at;
-        let end = first_zero_near(body, at);
-        if end < body.len() {
-            let len = end - at;
-            return CStringRead::Read(CString { start: at, len }, Cursor { at: end + 1 });
+        let len = bytes_before_zero(body, at);
+        if longest(limit) < len {
+            return CStringRead::Refused(refusal(len));
         }
-        CStringRead::Unended
+        CStringRead::Read(CString { start: at, len }, Cursor { at: at + len + 1 })
     }
 
-    // 16-bit units up to a zero unit; a lone last byte is no unit.
-    pub fn ucs2(self, body: &[u8]) -> Ucs2Read
-        ensures { λ r. ⌜ ucs2Says r ≡ view ucs2 (now (body .entry)) (self .at) ⌝ }
+    // 16-bit units up to a zero unit, at most `limit` of them; a lone last byte is no unit.
+    pub fn ucs2(self, body: &[u8], limit: usize) -> Ucs2Read
+        ensures { λ r. ⌜ ucs2Says r ≡ view (ucs2 limit) (now (body .entry)) (self .at) ⌝ }
     {
         let at = self.at;
         let n = units_before_zero(body, at);
-        let end = at + 2 * n;
-        if 2 <= left_from(body, end) {
-            return Ucs2Read::Read(Ucs2 { start: at, len: n }, Cursor { at: end + 2 });
+        if longest(limit) < n {
+            return Ucs2Read::Refused(refusal(n));
         }
-        Ucs2Read::Unended
+        Ucs2Read::Read(Ucs2 { start: at, len: n }, Cursor { at: at + 2 * n + 2 })
     }
 
     // n bytes passed over.
@@ -434,7 +475,8 @@ fn copy_u32s(body: &[u8], start: usize, n: usize, out: &mut [u32])
     }
 }
 
-// The string that starts where `string` does, without its zero, into the first bytes of `out`; its end is searched in the body given.
+// The string that starts where `string` does, without its zero, into the first bytes of `out`; its end is searched in the body given. Its
+// limit is the body's length, which no string in it exceeds: so none is tested.
 pub fn copy_cstring(body: &[u8], string: CString, out: &mut [u8]) -> Copied
     ensures { λ r. ⌜ (copiedSays r, now (out .exit)) ≡ copyCString (now (body .entry)) (string .start) (now (out .entry)) ⌝ }
 {
@@ -457,9 +499,7 @@ pub fn copy_ucs2(body: &[u8], string: Ucs2, out: &mut [u16]) -> Copied
 {
     let start = string.start;
     let n = units_before_zero(body, start);
-    let end = start + 2 * n;
-    let rest = left_from(body, end);
-    if rest < 2 {
+    if n == NONE {
         return Copied::Refused(8); // no zero unit
     }
     if out.len() < n {

@@ -170,7 +170,7 @@ impl Writer {
     {
         if self.close_is_due() {
             let at = self.at;
-            let number = weigh(false, false, at, 0, out.len());
+            let number = weigh(false, false, false, at, 0, out.len());
             if number != 0 {
                 return Written {
                     number,

@@ -7,13 +7,13 @@ use borrow.Author.Tests.{leb-false}
 use lib.ListN.{length}
 use Rattle.format.specs.Format.{number, ucs2, Value, encode, concatMap, All, Valid}
 use Rattle.format.proofs.Codec.{encode-pair, encode-list}
-use Rattle.format.specs.Fault.{holdsZero, tooLong}
+use Rattle.format.specs.Fault.{holdsZero, overLimit, tooLong}
 use Rattle.format.proofs.Faults.{passed-is-valid, any-never}
 use Rattle.format.proofs.Lists.{concatMap-append, concatMap-map, concatMap-parts, all-front, all-behind, all-map}
-use Rattle.protocol.specs.Kind.{Kind, bodyOf, identifierFormat, fixtureDataFormat, fixtureHead, fixtureFormat, laserPointFormat}
+use Rattle.protocol.specs.Kind.{Kind, bodyOf, identifierFormat, fixtureDataFormat, fixtureHead, fixtureFormat, feedNameFormat, laserPointFormat}
 use Rattle.protocol.specs.Kind.{LaserFeedFrame}
 use Rattle.writing.specs.Call.{Part, feedName, laserFeedFrame, laserPoint, fixture, identifier, fixtureData}
-use Rattle.writing.specs.Call.{layoutOf, layoutFits, layoutZero, layoutLong, partBytes, headOf, identifiersOf, dataOf, fixtureParts, partsOf}
+use Rattle.writing.specs.Call.{layoutOf, layoutFits, layoutZero, layoutOver, layoutLong, partBytes, headOf, identifiersOf, dataOf, fixtureParts, partsOf}
 use Rattle.writing.specs.Call.{Form, flat, fixtures, names, points, form, partsIn}
 
 -- ---- the bytes
@@ -29,8 +29,9 @@ fixture-bytes x =
     ap (λ (t : List ℕ). partBytes (fixture (headOf x) (length ids)) ++ t)
     (concatMap-append partBytes (map identifier ids) (fixtureData (dataOf x) ∷ [])
     ∙ ap (λ (t : List ℕ). t ++ (encode fixtureDataFormat (dataOf x) ++ [])) (concatMap-map partBytes identifier ids))
-    ∙ regroup (encode (number 4) (x .0)) (encode ucs2 (x .1 .0)) (encode ucs2 (x .1 .1 .0)) (encode ucs2 (x .1 .1 .1 .0)) (encode (number 2) (x .1 .1 .1 .1 .0))
-    (encode (number 1) (x .1 .1 .1 .1 .1 .0)) (encode (number 1) (length ids)) (concatMap (encode identifierFormat) ids) (encode fixtureDataFormat (dataOf x))
+    ∙ regroup (encode (number 4) (x .0)) (encode (ucs2 255) (x .1 .0)) (encode (ucs2 255) (x .1 .1 .0)) (encode (ucs2 255) (x .1 .1 .1 .0))
+    (encode (number 2) (x .1 .1 .1 .1 .0)) (encode (number 1) (x .1 .1 .1 .1 .1 .0)) (encode (number 1) (length ids))
+    (concatMap (encode identifierFormat) ids) (encode fixtureDataFormat (dataOf x))
 
 frame-bytes : (v : Value (bodyOf LaserFeedFrame)) → concatMap partBytes (partsOf LaserFeedFrame v) ≡ encode (bodyOf LaserFeedFrame) v
 unfolding concatMap encode
@@ -54,19 +55,20 @@ parts-bytes k v = by (form k) v
 
 -- ---- the values
 
--- a part that is refused neither 11 nor 12, of the types promised
+-- a part that is refused neither 11 nor 19 nor 12, of the types promised
 abbrev pub FinePart : Part → Type 0
-FinePart p = layoutFits (layoutOf p) × (layoutZero (layoutOf p) ≡ false) × (layoutLong (layoutOf p) ≡ false)
+FinePart p = layoutFits (layoutOf p) × (layoutZero (layoutOf p) ≡ false) × (layoutOver (layoutOf p) ≡ false) × (layoutLong (layoutOf p) ≡ false)
 
 fixture-valid : (x : Value fixtureFormat) → All FinePart (fixtureParts x) → Valid fixtureFormat x
-unfolding holdsZero tooLong
+unfolding holdsZero overLimit tooLong
 fixture-valid x h =
-    let head = passed-is-valid fixtureHead (headOf x) (h .0 .0) (h .0 .1) refl in
-    let ids = all-map FinePart (Valid identifierFormat) identifier (λ v f. passed-is-valid identifierFormat v (f .0) (any-never (v .1)) (f .2)) (identifiersOf x)
+    let head = passed-is-valid fixtureHead (headOf x) (h .0 .0) (h .0 .1) (h .0 .2) refl in
+    let ids = all-map FinePart (Valid identifierFormat) identifier
+    (λ v f. passed-is-valid identifierFormat v (f .0) (any-never (v .1)) (any-never (v .1)) (f .3)) (identifiersOf x)
     (all-front FinePart (map identifier (identifiersOf x)) (fixtureData (dataOf x) ∷ []) (h .1)) in
     let last = all-behind FinePart (map identifier (identifiersOf x)) (fixtureData (dataOf x) ∷ []) (h .1) .0 in
-    let rest = passed-is-valid fixtureDataFormat (dataOf x) (last .0) (last .1) refl in
-    let count = leb-false 256 (length (identifiersOf x)) (h .0 .2) in
+    let rest = passed-is-valid fixtureDataFormat (dataOf x) (last .0) (last .1) (last .2) refl in
+    let count = leb-false 256 (length (identifiersOf x)) (h .0 .3) in
     (head .0, (head .1 .0, (head .1 .1 .0, (head .1 .1 .1 .0, (head .1 .1 .1 .1 .0, (head .1 .1 .1 .1 .1, ((count, ids), rest)))))))
 
 fixtures-valid : (xs : List (Value fixtureFormat)) → All FinePart (concatMap fixtureParts xs) → All (Valid fixtureFormat) xs
@@ -76,19 +78,20 @@ fixtures-valid (x ∷ xs) h =
     (fixture-valid x (all-front FinePart (fixtureParts x) (concatMap fixtureParts xs) h), fixtures-valid xs (all-behind FinePart (fixtureParts x) (concatMap fixtureParts xs) h))
 
 pub parts-valid : (k : Kind) (v : Value (bodyOf k)) → All FinePart (partsOf k v) → Valid (bodyOf k) v
-unfolding holdsZero tooLong
+unfolding holdsZero overLimit tooLong
 parts-valid k v h = by (form k) v h
   where
     by : {k : Kind} (f : Form k) (v : Value (bodyOf k)) → All FinePart (partsIn f v) → Valid (bodyOf k) v
-    by {k} flat v h = passed-is-valid (bodyOf k) v (h .0 .0) (h .0 .1) (h .0 .2)
-    by fixtures v h = (h .0 .0, (leb-false 65536 (length (v .1)) (h .0 .2), fixtures-valid (v .1) (h .1)))
+    by {k} flat v h = passed-is-valid (bodyOf k) v (h .0 .0) (h .0 .1) (h .0 .2) (h .0 .3)
+    by fixtures v h = (h .0 .0, (leb-false 65536 (length (v .1)) (h .0 .3), fixtures-valid (v .1) (h .1)))
     by names v h = (
       h .0 .0,
       (
-        leb-false 256 (length (v .1)) (h .0 .2),
-        all-map FinePart (Valid ucs2) feedName (λ x f. passed-is-valid ucs2 x (f .0) (f .1) refl) (v .1) (h .1),
+        leb-false 256 (length (v .1)) (h .0 .3),
+        all-map FinePart (Valid feedNameFormat) feedName (λ x f. passed-is-valid feedNameFormat x (f .0) (f .1) (f .2) refl) (v .1) (h .1),
       ),
     )
     by points v h =
-        let points = all-map FinePart (Valid laserPointFormat) laserPoint (λ x f. passed-is-valid laserPointFormat x (f .0) refl refl) (v .1 .1 .1) (h .1) in
-        (h .0 .0 .0, (h .0 .0 .1 .0, (h .0 .0 .1 .1, (leb-false 65536 (length (v .1 .1 .1)) (h .0 .2), points))))
+        let points = all-map FinePart (Valid laserPointFormat) laserPoint
+        (λ x f. passed-is-valid laserPointFormat x (f .0) refl refl refl) (v .1 .1 .1) (h .1) in
+        (h .0 .0 .0, (h .0 .0 .1 .0, (h .0 .0 .1 .1, (leb-false 65536 (length (v .1 .1 .1)) (h .0 .3), points))))

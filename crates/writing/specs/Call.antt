@@ -4,9 +4,10 @@ use mathlib.Core.Bool.{Bool, true, false, _||_}
 use mathlib.Core.List.{List, [], _∷_, _++_, map}
 use lib.ListN.{length}
 use lib.Dec.{leb}
-use Rattle.format.specs.Format.{Format, number, code, ucs2, _&_, Value, encode, concatMap}
-use Rattle.format.specs.Fault.{Fits, holdsZero, tooLong}
-use Rattle.protocol.specs.Kind.{Kind, bodyOf, identifierFormat, fixtureHead, fixtureDataFormat, fixtureFormat, laserPointFormat}
+use Rattle.format.specs.Format.{Format, number, code, _&_, Value, encode, concatMap}
+use Rattle.format.specs.Fault.{Fits, holdsZero, overLimit, tooLong}
+use Rattle.protocol.specs.Kind.{Kind, bodyOf}
+use Rattle.protocol.specs.Kind.{identifierFormat, fixtureHead, fixtureDataFormat, fixtureFormat, feedNameFormat, laserPointFormat}
 use Rattle.protocol.specs.Kind as kind
 use Rattle.protocol.specs.Message.{Message, headersOf}
 
@@ -38,7 +39,7 @@ pub data Layout : Type 0 where
 abbrev pub layoutOf : Part → Layout
 layoutOf (body k v) = plain (bodyOf k) v
 layoutOf (laserFeedList key count) = counted (number 4) key 1 count
-layoutOf (feedName name) = plain ucs2 name
+layoutOf (feedName name) = plain feedNameFormat name
 layoutOf (laserFeedFrame key feed sequence count) = counted (number 4 & number 1 & number 4) (key, (feed, sequence)) 2 count
 layoutOf (laserPoint v) = plain laserPointFormat v
 layoutOf (fixtureList type count) = counted (code 3 9) type 2 count
@@ -57,6 +58,10 @@ layoutFits (counted f v w n) = Fits f v
 abbrev pub layoutZero : Layout → Bool
 layoutZero (plain f v) = holdsZero f v
 layoutZero (counted f v w n) = holdsZero f v
+
+abbrev pub layoutOver : Layout → Bool
+layoutOver (plain f v) = overLimit f v
+layoutOver (counted f v w n) = overLimit f v
 
 abbrev pub layoutLong : Layout → Bool
 layoutLong (plain f v) = tooLong f v
@@ -82,6 +87,12 @@ abbrev pub zeroIn : Call → Bool
 zeroIn (opens k request hint) = false
 zeroIn (give p) = layoutZero (layoutOf p)
 zeroIn closes = false
+
+-- a string given is longer than its limit
+abbrev pub overLimitIn : Call → Bool
+overLimitIn (opens k request hint) = false
+overLimitIn (give p) = layoutOver (layoutOf p)
+overLimitIn closes = false
 
 -- a list or block given, or a count declared, is too long for its field
 abbrev pub tooLongIn : Call → Bool

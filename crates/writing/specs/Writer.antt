@@ -10,7 +10,7 @@ use Rattle.format.specs.Fault.{weighed}
 use Rattle.protocol.specs.Layer.{headerLength}
 use Rattle.protocol.specs.Kind.{Kind, layer, sameKind, FixtureList, LaserFeedList, LaserFeedFrame}
 use Rattle.writing.specs.Call.{Part, body, laserFeedList, feedName, laserFeedFrame, laserPoint, fixtureList, fixture, identifier, fixtureData}
-use Rattle.writing.specs.Call.{Call, opens, give, closes, bytesOf, zeroIn, tooLongIn, form, isFlatForm}
+use Rattle.writing.specs.Call.{Call, opens, give, closes, bytesOf, zeroIn, overLimitIn, tooLongIn, form, isFlatForm}
 
 -- fresh or closed; open, the body or the list's head due; so many items due, and with none left close;
 -- in a fixture: so many fixtures due behind it, and so many identifiers, then its data
@@ -139,9 +139,13 @@ stored (opens k request hint) at o = sets o 0 (bytesOf (opens k request hint))
 stored (give p) at o = sets o at (bytesOf (give p))
 stored closes at o = sets o 8 (encode (number 4) at)
 
--- the number of a call: 14 out of turn, then 11, 12, 15, 13; or 0
-abbrev pub weigh : (due zeros long : Bool) (end room : ℕ) → ℕ
-weigh due zeros long end room = pick due (weighed zeros long end room) 14
+-- the number of a call: 14 out of turn, then 11, 19, 12, 15, 13; or 0
+abbrev pub weigh : (due zeros over long : Bool) (end room : ℕ) → ℕ
+weigh due zeros over long end room = pick due (weighed zeros over long end room) 14
+
+-- the numbers with which a call is refused
+abbrev pub callRefusals : List ℕ
+callRefusals = 11 ∷ 12 ∷ 13 ∷ 14 ∷ 15 ∷ 19 ∷ []
 
 -- what a call leaves: its number, the state and the output
 pub record Outcome : Type 0 where
@@ -155,7 +159,8 @@ settled zero c w o = record { number = 0; writer = record { turn = nextTurn c (w
 settled (suc n) c w o = record { number = suc n; writer = w; output = o }
 
 abbrev pub numberOf : Call → Writer → List ℕ → ℕ
-numberOf c w o = weigh (inTurn c (w .turn) && behindHeaders (w .turn) (w .at)) (zeroIn c) (tooLongIn c) (endOf c (w .at)) (length o)
+numberOf c w o =
+    weigh (inTurn c (w .turn) && behindHeaders (w .turn) (w .at)) (zeroIn c) (overLimitIn c) (tooLongIn c) (endOf c (w .at)) (length o)
 
 unfoldable pub apply : Call → Writer → List ℕ → Outcome
 apply c w o = settled (numberOf c w o) c w o

@@ -8,8 +8,8 @@ use Rattle.caex_messages.proofs.put_feed_name_items.Tie as tie
 
 abbrev Inv-loop : tie.InvT-loop
 Inv-loop out₀ from at body next₀ rest₀ t10 out next rest =
-    Onto from (itemLines (names.ucs2Of "feed_names") body (rest .at) (rest .left)) next out
-    (itemLines (names.ucs2Of "feed_names") body (rest₀ .at) (rest₀ .left)) at out₀
+    Onto from (itemLines names.feedName body (rest .at) (rest .left)) next out
+    (itemLines names.feedName body (rest₀ .at) (rest₀ .left)) at out₀
 
 abbrev μ-loop : tie.MeasureT-loop
 μ-loop out₀ from at body next₀ rest₀ t10 out next rest = rest .left

@@ -10,6 +10,7 @@ next-spec =
     (λ c κs. tt)
     (λ c. search needs)
     (λ c. search needs)
+    (λ c κs. tt)
     (λ c. search needs)
     (λ c. search needs)
     (λ c. search needs))

@@ -1,12 +1,12 @@
 use mathlib.Core.Path.{_≡_}
-use Rattle.format.specs.Format.{ucs2}
 use Rattle.format.specs.Passed.{passed}
+use Rattle.protocol.specs.Kind.{feedNameFormat}
 use Rattle.caex.proofs.Reading.{feed-needs as needs, names-passed}
 use Rattle.caex.proofs.FeedNames.pass.Statement.{statement}
 use Rattle.caex.proofs.FeedNames.pass.Tie as tie
 
 abbrev Inv-loop : tie.InvT-loop
-Inv-loop body rest₀ rest = passed ucs2 body (rest₀ .at) (rest₀ .left) ≡ passed ucs2 body (rest .at) (rest .left)
+Inv-loop body rest₀ rest = passed feedNameFormat body (rest₀ .at) (rest₀ .left) ≡ passed feedNameFormat body (rest .at) (rest .left)
 
 abbrev μ-loop : tie.MeasureT-loop
 μ-loop body rest₀ rest = rest .left

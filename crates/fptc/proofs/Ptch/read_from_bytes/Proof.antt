@@ -1,8 +1,10 @@
 -- field by field: what is left to read after each (a search over the rules of reading sees about five fields back)
+use mathlib.Core.Path.{sym}
 use denote.Ref.{now}
 use borrow.Author.Needs.{needs}
 use Rattle.format.proofs.Chain.{Left, start, step, stop, last, none, met, tailOf}
 use Rattle.wire.specs.Says.{cstringSays, u16Says, u8Says}
+use Rattle.wire.proofs.Reading.{cstring-none}
 use Rattle.fptc.specs.Says.{ptch}
 use Rattle.fptc.proofs.Ptch.read_from_bytes.Statement.{statement}
 use Rattle.fptc.proofs.Ptch.read_from_bytes.Tie as tie
@@ -22,8 +24,8 @@ left4 c = step (left3 (c .before .before .before .before)) (met u16Says (c .befo
 abbrev left5 : (c : tie.After-known-told5) → Left ptch (tailOf 5 ptch) (c .before .channel-count .given .0 .1 .0 .at)
 left5 c = step (left4 (c .before .before .before .before)) (met u16Says (c .before .before .before .u163 .ensures) (c .before .channel-count .given .1))
 
-abbrev left6 : (c : tie.After-known-told6) → Left ptch (tailOf 6 ptch) (c .before .fixture-make .given .0 .1 .0 .at)
-left6 c = step (left5 (c .before .before .before .before)) (met cstringSays (c .before .before .before .cstring .ensures) (c .before .fixture-make .given .1))
+abbrev left6 : (c : tie.After-known-told6) → Left ptch (tailOf 6 ptch) (c .before .answer .given .0 .1 .0 .at)
+left6 c = step (left5 (c .before .before .before .before)) (met cstringSays (c .before .before .before .cstring .ensures) (c .before .answer .given .1))
 
 pub read-from-bytes-spec : {M : Type 1} → statement M
 read-from-bytes-spec =
@@ -52,9 +54,13 @@ read-from-bytes-spec =
     (λ c κs. tt)
     (λ c. search needs)
     (λ c. search needs)
-    (λ c. stop (left5 (c .before .before .before)) (met cstringSays (c .before .before .cstring .ensures) (c .enum-told6 .given .1)))
+    (λ c κs. tt)
+    (λ c. stop (left5 (c .before .before .before .before))
+    (sym (cstring-none _ _ _ _ _ _ (c .before .before .before .cstring .ensures) (c .before .enum-told6 .given .1) (c .number .ensures))))
     (λ c κs. tt)
     (λ c. search needs)
     (λ c. search needs)
-    (λ c. none (left6 (c .before .before .before)) (met cstringSays (c .before .before .cstring2 .ensures) (c .enum-told7 .given .1)))
-    (λ c. last (left6 (c .before .before .before .before)) (met cstringSays (c .before .before .before .cstring2 .ensures) (c .before .fixture-name .given .1))))
+    (λ c κs. tt)
+    (λ c. none (left6 (c .before .before .before .before))
+    (sym (cstring-none _ _ _ _ _ _ (c .before .before .before .cstring2 .ensures) (c .before .enum-told7 .given .1) (c .number2 .ensures))))
+    (λ c. last (left6 (c .before .before .before .before)) (met cstringSays (c .before .before .before .cstring2 .ensures) (c .before .answer2 .given .1))))
