@@ -3,7 +3,7 @@
 //! input.
 use std::io::Read;
 
-/// The crates whose functions are in the archive's code beside the exported ones.
+/// The crates under the exported functions that the comparison calls; the patch book is not among them.
 const CRATES: [&str; 18] = [
     "search", "wire", "put", "floats", "header", "pinf", "sdmx", "fptc", "fsel", "finf", "fixture", "caex", "chls",
     "layers", "citp", "turns", "writer", "plain",

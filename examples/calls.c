@@ -292,7 +292,7 @@ static void book(void) {
     CHECK(citp_book_taken(1, entries, 2, 3) == 512 && citp_book_first_free(1, entries, 2, 3) == 512);
 }
 
-/* ---- strings past their limit, where no packet's walk comes first: a book's message, a list that is stepped through */
+/* ---- strings at their limit and past it, read where no packet's walk comes first: a book's message, lists that are stepped through */
 
 static void limits(void) {
     uint8_t ptch[8 + 257 + 1] = {9}, names[2 * 257] = {0};
@@ -302,6 +302,58 @@ static void limits(void) {
     is_booked(citp_book_patch(1, entries, 2, ptch, sizeof ptch), 19, 1);
     CHECK(memcmp(held, entries, sizeof held) == 0);
     CHECK(citp_feed_names_next(names, sizeof names, 0, 1).number == 19 && citp_feed_names_next(names, sizeof names, 2, 1).len == 255);
+    uint8_t lamp[4 + sizeof names] = {1};
+    memcpy(lamp + 4, names, sizeof names);
+    CHECK(citp_fixtures_next(lamp, sizeof lamp, 0, 1).number == 19);
+}
+
+/* ---- and written: each string of each call, with its limit and with one byte or unit more */
+
+static uint16_t name[256];
+static uint8_t bytes[65536], packet[66000];
+
+#define PACKET packet, sizeof packet
+#define WITHIN(state, limit, call) \
+    do { \
+        citp_writer at = (state); \
+        size_t n = (limit); \
+        CHECK((call).number == 0); \
+        n += 1; \
+        CHECK((call).number == 19); \
+    } while (0)
+
+static citp_writer opened(uint8_t kind) { return citp_writer_open(citp_writer_new(), PACKET, kind, 0, 0).writer; }
+
+static void written_units(void) {
+    citp_writer list = citp_writer_fixture_list_head(opened(CITP_FIXTURE_LIST), PACKET, 0, 1).writer;
+    citp_writer data = citp_writer_fixture_head(list, PACKET, 1, name, 0, name, 0, name, 0, 2, 3, 0).writer;
+    citp_writer feeds = citp_writer_laser_feed_list_head(opened(CITP_LASER_FEED_LIST), PACKET, 1, 1).writer;
+    WITHIN(opened(CITP_ENTER_SHOW), 255, citp_writer_enter_show(at, PACKET, name, n));
+    WITHIN(list, 255, citp_writer_fixture_head(at, PACKET, 1, name, n, name, 0, name, 0, 2, 3, 0));
+    WITHIN(list, 255, citp_writer_fixture_head(at, PACKET, 1, name, 0, name, n, name, 0, 2, 3, 0));
+    WITHIN(list, 255, citp_writer_fixture_head(at, PACKET, 1, name, 0, name, 0, name, n, 2, 3, 0));
+    WITHIN(data, 255, citp_writer_fixture_data(at, PACKET, fixture, name, n, name, 0, name, 0));
+    WITHIN(data, 255, citp_writer_fixture_data(at, PACKET, fixture, name, 0, name, n, name, 0));
+    WITHIN(data, 255, citp_writer_fixture_data(at, PACKET, fixture, name, 0, name, 0, name, n));
+    WITHIN(feeds, 255, citp_writer_feed_name(at, PACKET, name, n));
+}
+
+static void written_bytes(void) {
+    WITHIN(opened(CITP_UNAM), 255, citp_writer_unam(at, PACKET, 1, bytes, n));
+    WITHIN(opened(CITP_SXUS), 255, citp_writer_sxus(at, PACKET, 1, bytes, n));
+    WITHIN(opened(CITP_PTCH), 255, citp_writer_ptch(at, PACKET, 1, 2, 3, 4, 5, bytes, n, bytes, 0));
+    WITHIN(opened(CITP_PTCH), 255, citp_writer_ptch(at, PACKET, 1, 2, 3, 4, 5, bytes, 0, bytes, n));
+    WITHIN(opened(CITP_FRAM), 65535, citp_writer_fram(at, PACKET, 1, 2, 3, bytes, n));
+    WITHIN(opened(CITP_PNAM), 255, citp_writer_pnam(at, PACKET, bytes, n));
+    WITHIN(opened(CITP_PLOC), 255, citp_writer_ploc(at, PACKET, 1, bytes, n, bytes, 0, bytes, 0));
+    WITHIN(opened(CITP_PLOC), 255, citp_writer_ploc(at, PACKET, 1, bytes, 0, bytes, n, bytes, 0));
+    WITHIN(opened(CITP_PLOC), 255, citp_writer_ploc(at, PACKET, 1, bytes, 0, bytes, 0, bytes, n));
+}
+
+static void limits_written(void) {
+    memset(bytes, 'x', sizeof bytes);
+    memset(name, 'x', sizeof name);
+    written_units(), written_bytes();
 }
 
 int main(void) {
@@ -319,7 +371,7 @@ int main(void) {
     CHECK(r.writer.items == 0x0102 && r.writer.identifiers == 3 && r.writer.at == 0x04050607);
     counts();
     book();
-    limits();
+    limits(), limits_written();
     printf("20 kinds written, walked and read back; a patch book kept\n");
     return 0;
 }

@@ -28,8 +28,9 @@ extern "C" fn plain(body: *const u8, len: usize) -> library::StringBody {
 }
 
 pub fn rows(rows: &mut Vec<Row>) {
-    let long: &'static [u8] = [vec![0; 4], letters(limit("Fram")), vec![0]].concat().leak();
-    let names = &long[4..];
+    // the names start at a multiple of 16, as an allocation does
+    let padded: &'static [u8] = [vec![0; 16], letters(limit("Fram")), vec![0]].concat().leak();
+    let (long, names) = (&padded[12..], &padded[16..]);
     row(
         rows,
         "memchr",

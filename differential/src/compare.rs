@@ -1,7 +1,7 @@
 //! One body read by both and, where it is read, written by both.
 use crate::bodies::{self, damage, Size};
 use crate::canon::written;
-use crate::limits::{self, Stop};
+use crate::limits::{self, Stop, Text};
 use crate::ours::{self, Ours};
 use crate::random::Random;
 use crate::rust::{self, Answer, Body};
@@ -13,33 +13,24 @@ pub trait Compared: Body + Ours + Writes {}
 
 impl<T: Body + Ours + Writes> Compared for T {}
 
-/// A `Ucs2` at the end of a body without a zero unit, which the Rust accepts.
-fn unended(body: &[u8]) -> bool {
-    body.chunks_exact(2).all(|unit| unit != [0, 0])
-}
-
-/// The refusals that are due, none where the body is to be read, by what the Rust reads and writes again as the bytes
-/// taken, which are those of the body's parts. The Rust has no limit of a string: 19 goes by the parts, whatever the Rust
-/// makes of what stands behind. 7 and 8 are one outcome of the Rust; of the kinds that it does not read, a cut frame is
-/// 7, a cut list 7 in its first five bytes and 8 behind them.
-pub fn due<T: Body>(answer: &Answer<T>, body: &[u8]) -> Result<&'static [u8], String> {
+/// The number that is due, 0 where the body is to be read: that of its parts. The Rust must bear it out: it reads the
+/// bytes that the parts take and writes them again, its `UnexpectedEof` is 7 or 8, its panic at a type byte 9 or 10. It
+/// takes an `EnterShow` without a zero unit, and has no limit of a string: behind 19 it may make of a body what it will.
+pub fn due<T: Body>(answer: &Answer<T>, body: &[u8]) -> Result<u8, String> {
     let parts = limits::taken::<T>(body);
-    match answer {
-        Answer::Read(..) if T::NAME == "EnterShow" && unended(body) => Ok(&[8]),
-        Answer::Read(value, taken) if written(value) != body[..*taken] => Err("written as other bytes".to_string()),
-        _ if matches!(parts, Err(Stop::PastLimit(_))) => Ok(&[19]),
-        Answer::Read(_, taken) if parts != Ok(*taken) => Err("read otherwise than by its parts".to_string()),
-        Answer::Read(..) => Ok(&[]),
-        Answer::UnexpectedEof => Ok(match T::NAME {
-            "LaserFeedFrame" => &[7],
-            "LaserFeedList" if body.len() < 5 => &[7],
-            "LaserFeedList" => &[8],
-            _ => &[7, 8],
-        }),
-        Answer::Unreachable if T::NAME == "FixtureList" && body[0] > 2 => Ok(&[9]),
-        Answer::Unreachable if T::NAME == "FixtureList" => Ok(&[10]),
-        Answer::Unreachable => Err("unreachable".to_string()),
-        Answer::Other(what) => Err(what.clone()),
+    let number = parts.map_or_else(Stop::number, |_| 0);
+    let rewritten = |value: &T, taken: usize| written(value) == body[..taken];
+    let borne_out = match (answer, number) {
+        (Answer::Read(value, taken), 0) => parts == Ok(*taken) && rewritten(value, *taken),
+        (Answer::Read(value, taken), 19) => rewritten(value, *taken),
+        (Answer::Read(..), 8) => T::NAME == "EnterShow",
+        (Answer::UnexpectedEof, 7 | 8) | (Answer::Unreachable, 9 | 10) => true,
+        _ => number == 19,
+    };
+    if borne_out {
+        Ok(number)
+    } else {
+        Err(format!("{number} by its parts"))
     }
 }
 
@@ -80,13 +71,13 @@ fn look<T: Compared>(body: &[u8], scratch: &mut Scratch) -> Seen {
     let mut written = false;
     let difference = match (due(&answer, body), &answer) {
         (Err(_), _) => Some("an answer of the Rust that no rule covers"),
-        (Ok([]), Answer::Read(value, taken)) => differ_in_fields(value, *taken, &ours, scratch).or_else(|| {
+        (Ok(0), Answer::Read(value, taken)) => differ_in_fields(value, *taken, &ours, scratch).or_else(|| {
             written = true;
             value.compare_writing(&body[..*taken]).err()
         }),
-        (Ok(numbers), _) if !numbers.contains(&ours.number) => Some("refusal"),
+        (Ok(number), _) if number != ours.number => Some("refusal"),
         (Ok(_), _) if !scratch.ours.is_empty() => Some("fields of a refused answer"),
-        (Ok([19]), Answer::Read(value, taken)) => value.compare_writing(&body[..*taken]).err(),
+        (Ok(19), Answer::Read(value, taken)) => value.compare_writing(&body[..*taken]).err(),
         _ => None,
     };
     Seen { number: ours.number, written, difference }
@@ -159,24 +150,28 @@ pub fn short<T: Compared>(tally: &mut Tally) {
     bodies::short(T::SHAPE, &mut |body_| body::<T>(body_, &mut scratch, tally));
 }
 
-/// Of a string around the limits the cuts behind it, the copies damaged behind it, and those damaged anywhere.
-const OF_EACH: usize = 8;
+/// Of a body with a string around the limits: that string without its end; so many cuts behind it, copies damaged behind
+/// it and copies damaged anywhere.
+fn broken(whole: &[u8], text: Text, random: &mut Random) -> Vec<Vec<u8>> {
+    let (front, behind) = whole.split_at(text.end());
+    let unended = (1..=text.width).map(|n| front[..front.len() - n].to_vec());
+    let mut bodies: Vec<Vec<u8>> = unended.collect();
+    for _ in 0..8 {
+        bodies.push(whole[..random.between(text.end(), whole.len())].to_vec());
+        let (mut anywhere, mut behind) = (whole.to_vec(), behind.to_vec());
+        damage(&mut anywhere, random);
+        damage(&mut behind, random);
+        bodies.extend([anywhere, [front, &behind].concat()]);
+    }
+    bodies
+}
 
 /// Strings of the lengths around the limits: whole, without their end, and in cut and damaged bodies.
 pub fn limits<T: Compared>(random: &mut Random, tally: &mut Tally) {
     let mut scratch = Scratch::default();
     for (whole, text) in limits::around::<T>(&limits::LENGTHS, random) {
-        let mut see = |seen: &[u8]| body::<T>(seen, &mut scratch, tally);
-        see(&whole);
-        (1..=text.width).for_each(|n| see(&whole[..text.end() - n]));
-        for _ in 0..OF_EACH {
-            see(&whole[..random.between(text.end(), whole.len())]);
-            let (mut anywhere, mut behind) = (whole.clone(), whole[text.end()..].to_vec());
-            damage(&mut anywhere, random);
-            damage(&mut behind, random);
-            see(&anywhere);
-            see(&[&whole[..text.end()], &behind].concat());
-        }
+        let others = broken(&whole, text, random);
+        [whole].iter().chain(&others).for_each(|seen| body::<T>(seen, &mut scratch, tally));
     }
 }
 

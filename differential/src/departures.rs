@@ -133,6 +133,9 @@ fn reading() {
     entry(27, "Kinds that the Rust does not read");
     show_written_and_read("LaserFeedList of two empty names", &feeds(2, 2));
     show_written_and_read("LaserFeedFrame of one point", &frame(1, 1));
+}
+
+fn limits() {
     entry(28, "A string longer than its limit");
     for n in [255, 256] {
         show_read_back(&format!("PNam of {n} bytes 41"), &pinf::PNam { name: letters(n) });
@@ -448,6 +451,7 @@ pub fn show_all() {
          (differential/src/canon.rs)."
     );
     reading();
+    limits();
     zero_in_strings();
     counts_cut();
     count_fields();

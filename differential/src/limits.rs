@@ -1,5 +1,5 @@
 //! The limits of strings (docs/DIFFERENCES.md 28). A body is gone through by its parts, apart from the Rust's readers
-//! and from ours: this tells where 19 is due, and makes bodies with strings of the lengths around the limits.
+//! and from ours: this tells the number that is due, and makes bodies with strings of the lengths around the limits.
 use crate::bodies::{good, Part, Size};
 use crate::random::Random;
 use crate::rust::Body;
@@ -12,9 +12,11 @@ pub fn limit(kind: &str) -> usize {
     }
 }
 
-/// A string that has its end: where it starts, its bytes or units, and the bytes of each.
+/// A string that has its end: where the bytes start that a writer's call with it writes, where it starts, its bytes or
+/// units, and the bytes of each.
 #[derive(Clone, Copy, PartialEq)]
 pub struct Text {
+    pub call: usize,
     pub start: usize,
     pub len: usize,
     pub width: usize,
@@ -30,15 +32,25 @@ impl Text {
 /// What a body stops at.
 #[derive(Clone, Copy, PartialEq)]
 pub enum Stop {
-    /// The end of the body, or a type byte that is refused.
-    Unread,
+    /// The end of the body where a number or a byte is due, 7, or a string's end, 8; a type byte, 9 or 10.
+    Unread(u8),
     /// A string past its limit.
     PastLimit(Text),
 }
 
-/// A body, how far it is gone through, and what judges each string.
+impl Stop {
+    pub fn number(self) -> u8 {
+        match self {
+            Stop::Unread(number) => number,
+            Stop::PastLimit(_) => 19,
+        }
+    }
+}
+
+/// A body, where the present call of a writer starts, how far it is gone through, and what judges each string.
 struct Scan<'a, F> {
     body: &'a [u8],
+    call: usize,
     at: usize,
     judge: F,
 }
@@ -46,7 +58,7 @@ struct Scan<'a, F> {
 impl<F: FnMut(Text) -> Result<(), Stop>> Scan<'_, F> {
     fn skip(&mut self, n: usize) -> Result<(), Stop> {
         if n > self.body.len() - self.at {
-            return Err(Stop::Unread);
+            return Err(Stop::Unread(7));
         }
         self.at += n;
         Ok(())
@@ -59,33 +71,35 @@ impl<F: FnMut(Text) -> Result<(), Stop>> Scan<'_, F> {
         Ok(self.body[start..self.at].iter().rev().fold(0, |number, &byte| 256 * number + byte as usize))
     }
 
-    fn code(&mut self, limit: usize) -> Result<(), Stop> {
+    fn code(&mut self, limit: usize, refusal: u8) -> Result<(), Stop> {
         match self.number(1)? {
             code if code < limit => Ok(()),
-            _ => Err(Stop::Unread),
+            _ => Err(Stop::Unread(refusal)),
         }
     }
 
     fn string(&mut self, width: usize) -> Result<(), Stop> {
         let is_zero = |element: &[u8]| element.iter().all(|&byte| byte == 0);
-        let len = self.body[self.at..].chunks_exact(width).position(is_zero).ok_or(Stop::Unread)?;
-        let text = Text { start: self.at, len, width };
+        let len = self.body[self.at..].chunks_exact(width).position(is_zero).ok_or(Stop::Unread(8))?;
+        let text = Text { call: self.call, start: self.at, len, width };
         self.at = text.end();
         (self.judge)(text)
     }
 
     fn identifier(&mut self) -> Result<(), Stop> {
-        self.code(6)?;
+        self.code(6, 10)?;
         let size = self.number(2)?;
         self.skip(size)
     }
 
     fn fixture(&mut self) -> Result<(), Stop> {
+        self.call = self.at;
         self.skip(4)?;
         (0..3).try_for_each(|_| self.string(2))?;
         self.skip(3)?;
         let identifiers = self.number(1)?;
         (0..identifiers).try_for_each(|_| self.identifier())?;
+        self.call = self.at;
         self.skip(4)?;
         self.string(2)?;
         self.skip(2)?;
@@ -93,10 +107,15 @@ impl<F: FnMut(Text) -> Result<(), Stop>> Scan<'_, F> {
         self.skip(24)
     }
 
+    fn feed_name(&mut self) -> Result<(), Stop> {
+        self.call = self.at;
+        self.string(2)
+    }
+
     fn part(&mut self, part: Part) -> Result<(), Stop> {
         match part {
             Part::Bytes(n) => self.skip(n),
-            Part::Code(limit) => self.code(limit as usize),
+            Part::Code(limit) => self.code(limit as usize, 9),
             Part::CString => self.string(1),
             Part::Ucs2 => self.string(2),
             Part::List(width) => {
@@ -109,14 +128,14 @@ impl<F: FnMut(Text) -> Result<(), Stop>> Scan<'_, F> {
             }
             Part::Names => {
                 let names = self.number(1)?;
-                (0..names).try_for_each(|_| self.string(2))
+                (0..names).try_for_each(|_| self.feed_name())
             }
         }
     }
 }
 
 fn scan<T: Body>(body: &[u8], judge: impl FnMut(Text) -> Result<(), Stop>) -> Result<usize, Stop> {
-    let mut scan = Scan { body, at: 0, judge };
+    let mut scan = Scan { body, call: 0, at: 0, judge };
     T::SHAPE.iter().try_for_each(|&part| scan.part(part))?;
     Ok(scan.at)
 }

@@ -65,7 +65,7 @@ fn units_of(body: &[u8], start: usize, len: usize) -> Option<Vec<u16>> {
 
 /// Whether a string of any length is copied out, and refused with 8 without its end.
 pub fn is_copied(body: &[u8], text: Text) -> bool {
-    let Text { start, len, width } = text;
+    let Text { start, len, width, .. } = text;
     let unended = &body[..text.end() - 1];
     let (copied, refused) = match width {
         1 => (bytes_of(body, start, len).is_some(), library::copy_cstring(unended, start, &mut [])),

@@ -2,7 +2,7 @@
 use crate::ours::Answer;
 use std::sync::atomic::{AtomicU8, Ordering};
 
-pub const FAULTS: [&str; 12] = [
+pub const FAULTS: [&str; 13] = [
     "UNam: an empty name takes a byte more",
     "FixtureList: 9 is answered as 7",
     "FixtureList: position_x: a NaN is made quiet",
@@ -15,6 +15,7 @@ pub const FAULTS: [&str; 12] = [
     "LaserFeedFrame: the last of 65,535 points is left out",
     "PNam: a name of 256 bytes is read",
     "FixtureList: 19 on writing is answered as 13",
+    "Ptch: 8 is answered as 7",
 ];
 
 static PLANTED: AtomicU8 = AtomicU8::new(0);
@@ -34,6 +35,7 @@ pub fn answer(reader: &str, body: &[u8], answer: Answer) -> Answer {
         "enter_show_read" if on(7) && answer.number == 8 => Answer { number: 0, ..answer },
         "laser_feed_list_read" if on(8) && answer.number == 8 => Answer { number: 7, ..answer },
         "pnam_read" if on(11) && answer.number == 19 && body.len() == 257 => Answer { number: 0, ..answer },
+        "ptch_read" if on(13) && answer.number == 8 => Answer { number: 7, ..answer },
         _ => answer,
     }
 }

@@ -1,6 +1,6 @@
 //! Stored samples of the Rust's answers, of laser feeds its stand-in's (rust.rs): records for crates/replay, packets for
 //! examples/rewrite.c. A record: the length of what follows (u16), the kind's place in the list of kinds (u8), the
-//! body's length (u16), the body, the refusal that is due (u8; 0: read, 7: 7 or 8) and, if it is to be read, the bytes
+//! body's length (u16), the body, the refusal that is due (u8; 0: read) and, if it is to be read, the bytes
 //! taken (u32) and the canonical bytes. Numbers are little-endian. The Rust writes each value read again as the bytes
 //! taken.
 use crate::bodies::{damage, good, Size};
@@ -67,8 +67,8 @@ fn record<T: Body>(kind: u8, body: &[u8]) -> Vec<u8> {
     record.extend_from_slice(body);
     let answer = read::<T>(body);
     let due = due(&answer, body).expect("a rule for the answer");
-    record.push(due.first().copied().unwrap_or(0));
-    if let (Answer::Read(value, taken), true) = (answer, due.is_empty()) {
+    record.push(due);
+    if let (Answer::Read(value, taken), 0) = (answer, due) {
         (taken as u32).canon(&mut record);
         value.canon(&mut record);
     }
@@ -85,7 +85,7 @@ const PACKETS: usize = 50;
 /// The Rust's packets of values that were read.
 pub fn packets<T: Body + Writes>() -> Vec<Vec<u8>> {
     let packet = |body: &Vec<u8>| match read::<T>(body) {
-        answer @ Answer::Read(..) if due(&answer, body) != Ok(&[]) => None,
+        answer @ Answer::Read(..) if due(&answer, body) != Ok(0) => None,
         Answer::Read(value, _) => value.packet(),
         _ => None,
     };

@@ -87,7 +87,7 @@ fn compare_reading<T: Compared>(
     for end in (0..CUTS).map(|_| random.below(written.len())).chain([written.len() - 1]) {
         let cut = &written[..end];
         let (number, taken, fields) = answer::<T>(cut, tally);
-        if due::<T>(&Answer::UnexpectedEof, cut) != Ok(&[number]) || taken != 0 || !fields.is_empty() {
+        if due::<T>(&Answer::UnexpectedEof, cut) != Ok(number) || taken != 0 || !fields.is_empty() {
             return Err("a cut of what the Rust wrote");
         }
     }

@@ -9,6 +9,7 @@ use crate::pens::{Alone, At, Packet};
 use crate::plant;
 use crate::rust::Body;
 use citp::protocol::Header;
+use std::ops::RangeInclusive;
 
 /// What the output holds before a call, and how far bodies are written from its ends.
 pub fn blank(len: usize) -> Vec<u8> {
@@ -62,15 +63,14 @@ fn compare_alone<T: Given>(value: &T, due: &[u8]) -> Result<(), &'static str> {
     }
 }
 
-/// A refusal that is due: its number, and a byte of the body that the refused call would have written.
-#[derive(Clone, Copy)]
+/// A refusal that is due: its number, and how many bytes of the body the calls before it may have written.
 struct Refusal {
     number: u8,
-    of: usize,
+    stands: RangeInclusive<usize>,
 }
 
 /// A call is refused: what the calls before it wrote stands, and nothing else.
-fn alone_refused<T: Given>(value: &T, due: &[u8], room: usize, refusal: Refusal) -> bool {
+fn alone_refused<T: Given>(value: &T, due: &[u8], room: usize, refusal: &Refusal) -> bool {
     let mut out = blank(FRONT + room);
     let mut pen = Alone { out: &mut out, at: FRONT };
     let mut number = value.give(&mut pen);
@@ -81,7 +81,7 @@ fn alone_refused<T: Given>(value: &T, due: &[u8], room: usize, refusal: Refusal)
     if plant::on(12) && T::KIND == library::FIXTURE_LIST && number == 19 {
         number = 13;
     }
-    number == refusal.number && stands <= refusal.of && holds(&out, FRONT, &due[..stands])
+    number == refusal.number && refusal.stands.contains(&stands) && holds(&out, FRONT, &due[..stands])
 }
 
 fn compare_packet<T: Given>(value: &T, due: &[u8]) -> Result<(), &'static str> {
@@ -97,7 +97,7 @@ fn compare_packet<T: Given>(value: &T, due: &[u8]) -> Result<(), &'static str> {
     }
 }
 
-fn packet_refused<T: Given>(value: &T, due: &[u8], room: usize, refusal: Refusal) -> bool {
+fn packet_refused<T: Given>(value: &T, due: &[u8], room: usize, refusal: &Refusal) -> bool {
     let mut out = blank(T::Layer::LENGTH + room);
     let mut packet = Packet::new(&mut out);
     let opened = packet.open(T::KIND, REQUEST_INDEX, CONTENT_HINT) == 0;
@@ -106,27 +106,28 @@ fn packet_refused<T: Given>(value: &T, due: &[u8], room: usize, refusal: Refusal
     // the size field is 0 until close
     let mut due = due.to_vec();
     due[8..12].fill(0);
-    opened && number == refusal.number && stands <= T::Layer::LENGTH + refusal.of && holds(&out, 0, &due[..stands])
+    let of_body = stands.saturating_sub(T::Layer::LENGTH);
+    opened && number == refusal.number && refusal.stands.contains(&of_body) && holds(&out, 0, &due[..stands])
 }
 
 /// The last call is refused.
 fn compare_short<T: Given>(value: &T, due: &[u8], packet: &[u8]) -> Result<(), &'static str> {
     let room = due.len() - 1;
-    let refusal = Refusal { number: 13, of: room };
+    let refusal = Refusal { number: 13, stands: 0..=room };
     match () {
-        _ if !alone_refused(value, due, room, refusal) => Err("body into an output one byte short"),
-        _ if !packet_refused(value, packet, room, refusal) => Err("packet into an output one byte short"),
+        _ if !alone_refused(value, due, room, &refusal) => Err("body into an output one byte short"),
+        _ if !packet_refused(value, packet, room, &refusal) => Err("packet into an output one byte short"),
         _ => Ok(()),
     }
 }
 
 /// The call with the string is refused, whatever the room.
 fn compare_past_limit<T: Given>(value: &T, due: &[u8], packet: &[u8], text: Text) -> Result<(), &'static str> {
-    let refusal = Refusal { number: 19, of: text.start };
+    let refusal = Refusal { number: 19, stands: text.call..=text.call };
     let rooms = [due.len() - 1, due.len() + BEHIND];
     match () {
-        _ if !rooms.iter().all(|&room| alone_refused(value, due, room, refusal)) => Err("body past a limit, written"),
-        _ if !rooms.iter().all(|&room| packet_refused(value, packet, room, refusal)) => {
+        _ if !rooms.iter().all(|&room| alone_refused(value, due, room, &refusal)) => Err("body past a limit, written"),
+        _ if !rooms.iter().all(|&room| packet_refused(value, packet, room, &refusal)) => {
             Err("packet past a limit, written")
         }
         _ if !is_copied(due, text) => Err("string past its limit, copied out"),

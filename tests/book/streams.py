@@ -76,7 +76,7 @@ OTHERS = [
     packet(b'FPTC', b'UPtc', u16s(0, 10)[:-1]),  # 7
     packet(b'FPTC', b'Ptch', patch(21, 9, 1, 1, b'x' * 255 + b'\0\0')),
     packet(b'FPTC', b'Ptch', patch(22, 9, 2, 1, b'x' * 256 + b'\0\0')),  # 19
-    packet(b'FPTC', b'Ptch', patch(22, 9, 2, 1, b'\0' + b'x' * 256 + b'\0')),
+    packet(b'FPTC', b'Ptch', patch(22, 9, 2, 1, b'\0' + b'x' * 256 + b'\0')),  # 19
     packet(b'FPTC', b'', b'Ptch'),  # 6
     packet(b'FPTC', b'SPtc', u16s(0, 10)),
     packet(b'SDMX', b'Ptch', patch(21, 9, 1, 1)),  # unknown

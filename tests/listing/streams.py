@@ -50,9 +50,9 @@ def frame(source_key, feed_index, frame_sequence, *points):
     return head + b''.join(struct.pack('<BBBH', *point) for point in points)
 
 
-def lamp(names, unit='', circuit='', note=''):
-    """A fixture list of one fixture that has nothing but names."""
-    return b'\0\1\0' + fixture(1, names, [], (0, 0, 0, unit, 0, circuit, note, *[0] * 6))
+def lamp(names, unit='', circuit='', note='', type_=0, identifiers=()):
+    """A fixture list of one fixture that has nothing but names, and perhaps identifiers."""
+    return struct.pack('<BH', type_, 1) + fixture(1, names, identifiers, (0, 0, 0, unit, 0, circuit, note, *[0] * 6))
 
 
 def named(length):
@@ -126,7 +126,8 @@ OTHERS = [
     packet(b'CAEX', 0x00020100, b'A\0\0'),
     *[packet(b'CAEX', 0x00030101, feed_list(1, 'A', 'B')[:-cut]) for cut in (1, 2, 3, 4)],
     packet(b'CAEX', 0x00020201, b'\3\0\0'),  # 9
-    packet(b'CAEX', 0x00020201, b'\0\1\0' + fixture(1, ('', '', ''), [identifier(6, b'')], (0, 0, 0, '', 0, '', '', 0, 0, 0, 0, 0, 0))),  # 10
+    packet(b'CAEX', 0x00020201, lamp(('', '', ''), identifiers=[identifier(6, b'')])),  # 10
+    packet(b'PINF', b'PNam', b'x' * 256 + b'\0'),  # 19
 ]
 
 LIMITS = [
@@ -138,6 +139,9 @@ LIMITS = [
     packet(b'PINF', b'PLoc', bytes(2) + b'x' * 256 + b'\0'),  # 19: in the order of the fields
     packet(b'PINF', b'PLoc', bytes(3) + b'x' * 256),  # 8
     packet(b'CAEX', 0x00020201, lamp(('x' * 256, '', ''))[:530]),  # 19, before the 7 of what is cut off
+    packet(b'CAEX', 0x00020201, lamp(('x' * 256, '', ''), type_=3)),  # 9
+    packet(b'CAEX', 0x00020201, lamp(('', '', 'x' * 256), identifiers=[identifier(6, b'')])),  # 19
+    packet(b'CAEX', 0x00020201, lamp(('', '', ''), 'x' * 256, identifiers=[identifier(6, b'')])),  # 10
 ]
 
 ALL = b''.join(MESSAGES + OTHERS)

@@ -408,9 +408,9 @@ impl FeedNames {
             return FeedNamesNext::Done;
         }
         let c = Cursor { at: self.at };
-        let answer = c.ucs2(body, NAME_LIMIT);
-        let Ucs2Read::Read(feed_name, c) = answer else {
-            return FeedNamesNext::Refused(answer.number());
+        let name = c.ucs2(body, NAME_LIMIT);
+        let Ucs2Read::Read(feed_name, c) = name else {
+            return FeedNamesNext::Refused(name.number());
         };
         FeedNamesNext::Item(
             feed_name,

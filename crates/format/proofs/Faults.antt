@@ -7,9 +7,9 @@ use native.Mathlib.Omega.{arith}
 use lib.ListN.{length}
 use lib.Dec.{leb, eqb}
 use borrow.Author.Tests.{eqb-false, ne-eqb, ltb-false, le-ltb, leb-false, lt-leb}
-use Rattle.format.specs.Format.{Format, number, code, cstring, ucs2, list, _&_, Value, pick, All, Letter, Valid}
+use Rattle.format.specs.Format.{Format, number, code, cstring, ucs2, list, _&_, Value, All, Letter, Valid}
 use Rattle.format.proofs.Bools.{neither}
-use Rattle.format.specs.Fault.{any, holdsZero, overLimit, tooLong, fault, Fits}
+use Rattle.format.specs.Fault.{any, holdsZero, overLimit, tooLong, weighed, fault, Fits}
 
 pub all-both : {A : Type 0} {P Q R : A → Type 0} → ((x : A) → P x → Q x → R x) → (xs : List A) → All P xs → All Q xs → All R xs
 all-both k [] h h′ = tt
@@ -77,7 +77,7 @@ pub no-fault-is-valid : (f : Format) (v : Value f) → Fits f v → fault f v �
 unfolding fault
 no-fault-is-valid f v h e = passed (holdsZero f v) (overLimit f v) (tooLong f v) refl refl refl e
   where
-    passed : (z o l : Bool) → holdsZero f v ≡ z → overLimit f v ≡ o → tooLong f v ≡ l → _≡_ {A = ℕ} (pick z 11 (pick o 19 (pick l 12 0))) 0 → Valid f v
+    passed : (z o l : Bool) → holdsZero f v ≡ z → overLimit f v ≡ o → tooLong f v ≡ l → weighed z o l 0 0 ≡ 0 → Valid f v
     passed true o l ez eo el e = absurd (omega arith)
     passed false true l ez eo el e = absurd (omega arith)
     passed false false true ez eo el e = absurd (omega arith)

@@ -1,11 +1,14 @@
--- Fields are tested in wire order: the first refusal is the answer; a type byte is tested once it is read, a string once its end is found, whatever follows.
+-- Fields are read in wire order: the first refusal is the answer; a type byte is tested once it is read, a string once its end is found,
+-- whatever follows. And the order in which a write is weighed.
 use Prim.Native.Nat.{ℕ, suc, _+_, _*_, _≤_, _<_}
-use mathlib.Core.Path.{_≡_}
+use mathlib.Core.Path.{_≡_, refl}
+use mathlib.Core.Bool.{true, false}
 use mathlib.Core.List.{List, _∷_}
 use native.Mathlib.Omega.{arith}
 use lib.ListN.{length}
 use borrow.Author.Tests.{lt-ltb, le-ltb}
 use Rattle.format.specs.Format.{Format, code, cstring, ucs2, _&_, Value, got, refused, decodeNumber, decodeItems, decodeCString, decodeUcs2, decode}
+use Rattle.format.specs.Fault.{weighed}
 
 -- a field that is refused ends the reading there
 pub first-refused : (f g : Format) (s : List ℕ) (n : ℕ) → decode f s ≡ refused n → decode (f & g) s ≡ refused n
@@ -45,3 +48,13 @@ ucs2-end-first limit s n e = rw e
 pub ucs2-then-limit : (limit : ℕ) (s xs t : List ℕ) → decodeUcs2 s ≡ got xs t → limit < length xs → decode (ucs2 limit) s ≡ refused 19
 unfolding decode
 ucs2-then-limit limit s xs t e h = rw (e, lt-ltb limit (length xs) h)
+
+-- the rows of a write, tested from the top: each breaks its own and every row behind it
+pub write-rows :
+    (weighed true true true 16777217 0 ≡ 11)
+    × (weighed false true true 16777217 0 ≡ 19)
+    × (weighed false false true 16777217 0 ≡ 12)
+    × (weighed false false false 16777217 0 ≡ 15)
+    × (weighed false false false 16777216 16777215 ≡ 13)
+    × (weighed false false false 16777216 16777216 ≡ 0)
+write-rows = (refl, refl, refl, refl, refl, refl)

@@ -42,10 +42,6 @@ tooLong (ucs2 m) xs = false
 tooLong (list w f) xs = leb (256 ^ w) (length xs) || any (tooLong f) xs
 tooLong (f & g) x = tooLong f (x .0) || tooLong g (x .1)
 
--- the number of the value's refusal, or 0
-unfoldable pub fault : (f : Format) → Value f → ℕ
-fault f v = pick (holdsZero f v) 11 (pick (overLimit f v) 19 (pick (tooLong f v) 12 0))
-
 -- every number fits its field's type, every element of a string its byte or unit, every code its enum: what a call's arguments are by themselves
 abbrev pub Fits : (f : Format) → Value f → Type 0
 Fits (number w) n = n < 256 ^ w
@@ -62,3 +58,7 @@ limit = 16777216
 -- the number of a write, by its end and the room: 11, 19, 12, a packet past its limit 15, an output too short 13, in that order; or 0
 abbrev pub weighed : (zeros over long : Bool) (end room : ℕ) → ℕ
 weighed zeros over long end room = pick zeros 11 (pick over 19 (pick long 12 (pick (ltb limit end) 15 (pick (ltb room end) 13 0))))
+
+-- the number with which the value itself is refused, wherever there is room, or 0
+unfoldable pub fault : (f : Format) → Value f → ℕ
+fault f v = weighed (holdsZero f v) (overLimit f v) (tooLong f v) 0 0

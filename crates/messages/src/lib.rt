@@ -7,6 +7,7 @@ ghost use Rattle.format.specs.Format.{encodeNumber};
 ghost use Rattle.text.specs.Prints.{Prints};
 ghost use Rattle.text.specs.Text.{chars, decimal, line};
 ghost use Rattle.protocol.specs.Kind as kind;
+ghost use Rattle.protocol.specs.Kind.{nameLimit};
 ghost use Rattle.lines.specs.Lines.{bytes, itemLines, _and_, Lists};
 ghost use Rattle.pinf.specs.Says as pinfSays;
 ghost use Rattle.sdmx.specs.Says as sdmxSays;
@@ -127,8 +128,8 @@ fn put_universe(
     x: CString,
     body: &[u8],
 ) -> usize
-    ensures { λ r. ⌜ Lists from (names.numberOf {w = 1} "universe_index" and bytes {m = 255} (now (name .entry))) (now (body .entry))
-        («universe_index», (x .start, x .len)) at (now (out .entry)) r (now (out .exit)) ⌝ }
+    ensures { λ r. ⌜ Lists from (names.numberOf {w = 1} "universe_index" and bytes {m = nameLimit} (now (name .entry)))
+        (now (body .entry)) («universe_index», (x .start, x .len)) at (now (out .entry)) r (now (out .exit)) ⌝ }
 {
     let at = put_decimal_line(out, from, at, b"universe_index", universe_index as usize);
     put_cstring(out, from, at, name, x, body)

@@ -4,7 +4,7 @@ use Prim.Native.String.{String}
 use mathlib.Core.List.{_++_}
 use Rattle.format.specs.Format.{Format, number, code, cstring, ucs2, list, _&_}
 use Rattle.protocol.specs.Kind as kind
-use Rattle.protocol.specs.Kind.{Kind, bodyOf}
+use Rattle.protocol.specs.Kind.{Kind, nameLimit, bodyOf}
 use Rattle.protocol.specs.Kind.{identifierFormat, fixtureDataFormat, fixtureFormat, channelLevelFormat, feedNameFormat, laserPointFormat}
 use Rattle.text.specs.Text.{chars}
 use Rattle.lines.specs.Lines.{Listed, decimal, bits, type, bytes, units, each, block, digits, _and_}
@@ -49,10 +49,11 @@ identifier = typeOf "identifier_type" and digits (chars "data_size") (chars "dat
 abbrev pub floats : Listed (number 4 & number 4 & number 4 & number 4 & number 4 & number 4)
 floats = floatOf "position" and floatOf "position" and floatOf "position" and floatOf "angles" and floatOf "angles" and floatOf "angles"
 
-abbrev pub fromCircuit : Listed (ucs2 255 & ucs2 255 & number 4 & number 4 & number 4 & number 4 & number 4 & number 4)
+abbrev pub fromCircuit : Listed (ucs2 nameLimit & ucs2 nameLimit & number 4 & number 4 & number 4 & number 4 & number 4 & number 4)
 fromCircuit = ucs2Of "circuit" and ucs2Of "note" and floats
 
-abbrev pub fromUnit : Listed (ucs2 255 & number 2 & ucs2 255 & ucs2 255 & number 4 & number 4 & number 4 & number 4 & number 4 & number 4)
+abbrev pub fromUnit :
+    Listed (ucs2 nameLimit & number 2 & ucs2 nameLimit & ucs2 nameLimit & number 4 & number 4 & number 4 & number 4 & number 4 & number 4)
 fromUnit = ucs2Of "unit" and numberOf "channel" and fromCircuit
 
 abbrev pub fixtureData : Listed fixtureDataFormat
@@ -61,7 +62,7 @@ fixtureData = numberOf "patched" and numberOf "universe" and numberOf "universe_
 abbrev pub fromIdentifiers : Listed (list 1 identifierFormat & fixtureDataFormat)
 fromIdentifiers = listOf "identifier_count" identifier and fixtureData
 
-abbrev pub fromMode : Listed (ucs2 255 & number 2 & number 1 & list 1 identifierFormat & fixtureDataFormat)
+abbrev pub fromMode : Listed (ucs2 nameLimit & number 2 & number 1 & list 1 identifierFormat & fixtureDataFormat)
 fromMode = ucs2Of "mode_name" and numberOf "channel_count" and numberOf "is_dimmer" and fromIdentifiers
 
 abbrev pub fixture : Listed fixtureFormat
@@ -76,7 +77,7 @@ feedName = ucs2Of "feed_names"
 abbrev pub laserPoint : Listed laserPointFormat
 laserPoint = numberOf "x_low_byte" and numberOf "y_low_byte" and numberOf "xy_high_nibbles" and numberOf "color"
 
-abbrev pub patchChannels : Listed (number 2 & number 2 & cstring 255 & cstring 255)
+abbrev pub patchChannels : Listed (number 2 & number 2 & cstring nameLimit & cstring nameLimit)
 patchChannels = numberOf "channel" and numberOf "channel_count" and cstringOf "fixture_make" and cstringOf "fixture_name"
 
 -- ---- kinds

@@ -1,5 +1,5 @@
 // Writes values at a place of lent output, sizes them, and weighs whether a write is taken.
-ghost use Prim.Native.Nat.{_+_, _*_, _≤_};
+ghost use Prim.Native.Nat.{_+_, _-_, _*_, _≤_};
 ghost use mathlib.Core.Path.{_≡_};
 ghost use mathlib.Core.Bool.{_||_};
 ghost use mathlib.Core.List.{[], _∷_};
@@ -20,6 +20,13 @@ pub struct Put {
 }
 
 // ---- numbers
+
+// How much is left behind a place.
+fn left(at: usize, len: usize) -> usize
+    ensures { λ r. ⌜ r ≡ len - at ⌝ }
+{
+    if at < len { len - at } else { 0 }
+}
 
 fn put_byte(out: &mut [u8], at: usize, n: u8) -> usize
     ensures { λ r. ⌜ Puts (n ∷ []) at (now (out .entry)) r (now (out .exit)) ⌝ }
@@ -62,10 +69,8 @@ pub fn put_number_1(out: &mut [u8], at: usize, n: usize) -> usize
 pub fn put_number_2(out: &mut [u8], at: usize, n: usize) -> usize
     ensures { λ r. ⌜ Writes (number 2) n at (now (out .entry)) r (now (out .exit)) ⌝ }
 {
-    if at < out.len() {
-        if 2 <= out.len() - at {
-            return store_2(out, at, n);
-        }
+    if 2 <= left(at, out.len()) {
+        return store_2(out, at, n);
     }
     let at = put_byte(out, at, (n % 256) as u8);
     put_byte(out, at, (n / 256 % 256) as u8)
@@ -74,10 +79,8 @@ pub fn put_number_2(out: &mut [u8], at: usize, n: usize) -> usize
 pub fn put_number_4(out: &mut [u8], at: usize, n: usize) -> usize
     ensures { λ r. ⌜ Writes (number 4) n at (now (out .entry)) r (now (out .exit)) ⌝ }
 {
-    if at < out.len() {
-        if 4 <= out.len() - at {
-            return store_4(out, at, n);
-        }
+    if 4 <= left(at, out.len()) {
+        return store_4(out, at, n);
     }
     let at = put_byte(out, at, (n % 256) as u8);
     let at = put_byte(out, at, (n / 256 % 256) as u8);

@@ -16,7 +16,7 @@ struct Tally {
     differ: u64,
 }
 
-// ---- a record: kind, length of the body, body, number due (7: 7 or 8), and where it is 0 the canonical bytes
+// ---- a record: kind, length of the body, body, number due, and where it is 0 the canonical bytes
 
 fn caex_or_sdmx(kind: u8, body: &[u8], due: &[u8]) -> Answer {
     match kind {
@@ -50,14 +50,6 @@ fn answer(kind: u8, body: &[u8], due: &[u8]) -> Answer {
     }
 }
 
-// The Rust does not tell 7 from 8.
-fn is_due(number: u8, due: u8) -> bool {
-    if due == 7 {
-        return number == 7 || number == 8;
-    }
-    number == due
-}
-
 fn agrees(answer: Answer, number: u8, due: &[u8]) -> bool {
     let compared = answer.compared;
     if answer.number == 0 {
@@ -66,7 +58,7 @@ fn agrees(answer: Answer, number: u8, due: &[u8]) -> bool {
         }
         return false;
     }
-    is_due(answer.number, number)
+    answer.number == number
 }
 
 // ---- counts

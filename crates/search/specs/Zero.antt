@@ -20,7 +20,7 @@ unitsBeforeZero [] = 0
 unitsBeforeZero (b ∷ []) = 0
 unitsBeforeZero (b ∷ c ∷ s) = unless (eqb (b + 256 * c) 0) (suc (unitsBeforeZero s))
 
--- a count that no slice reaches: the largest of a usize
+-- the count where there is no zero, the largest of a usize: above every other, since a count is below the length of its slice
 abbrev pub none : ℕ
 none = 18446744073709551615
 

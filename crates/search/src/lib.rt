@@ -13,7 +13,7 @@ fn smaller(a: usize, b: usize) -> usize
     if a < b { a } else { b }
 }
 
-// The answer where there is no zero; no slice is as long.
+// The answer where there is no zero: above every count, since a count is below the length of its slice.
 pub const NONE: usize = usize::MAX;
 
 // A place before `stop`, or none.
@@ -140,6 +140,20 @@ fn first_of_8(s: &[u8], i: usize) -> usize
     i + 8
 }
 
+// The first zero of a few bytes, or NONE. A place found is answered where it is found: the compiler then knows that it is small.
+fn first_of_few(s: &[u8]) -> usize
+    ensures { λ r. ⌜ r ≡ bytesToZero (now (s .entry)) ⌝ }
+{
+    let mut i = 0;
+    while i < s.len() {
+        if s[i] == 0 {
+            return i;
+        }
+        i += 1;
+    }
+    NONE
+}
+
 // The first zero of the bytes from `from` up to `stop`, or `stop`.
 fn first_one_by_one(s: &[u8], from: usize, stop: usize) -> usize
     requires { do ⌜ (from ≤ stop) × (stop ≤ (← ⟦s.len()⟧)) ⌝ }
@@ -153,20 +167,6 @@ fn first_one_by_one(s: &[u8], from: usize, stop: usize) -> usize
         i += 1;
     }
     i
-}
-
-// The first zero of a few bytes, or NONE. A place found is answered where it is found: the compiler then knows that it is small.
-fn first_of_few(s: &[u8]) -> usize
-    ensures { λ r. ⌜ r ≡ bytesToZero (now (s .entry)) ⌝ }
-{
-    let mut i = 0;
-    while i < s.len() {
-        if s[i] == 0 {
-            return i;
-        }
-        i += 1;
-    }
-    NONE
 }
 
 // The same by eights.

@@ -140,7 +140,7 @@ number-some : {n k : ℕ} → k ≡ pick (eqb n none) 8 19 → n < none → k �
 number-some {n} f l = f ∙ rw (ne-eqb n none (λ z. absurd (omega arith))) refl
 
 -- w is the most that the count may be
-module _ (s : List ℕ) (at m : ℕ) {n w : ℕ} (fits : length s ≤ none) (l : w ≡ min m 18446744073709551614) where
+module _ (s : List ℕ) (at m : ℕ) {n w : ℕ} (fits : length s ≤ none) (l : w ≡ min m (none - 1)) where
   pub cstring-refused : {k : ℕ} → n ≡ bytesToZero (drop at s) → w < n → k ≡ pick (eqb n none) 8 19 → missed k ≡ view (cstring m) s at
   cstring-refused {k} e h f =
       let d : length (drop at s) ≡ length s - at = length-drop at s in

@@ -54,6 +54,7 @@ abbrev pub ucs2Says : Ucs2Read → Seen (ℕ × ℕ)
 ucs2Says (ucs2.Read x c) = seen (x .start, x .len) (c .at)
 ucs2Says (ucs2.Refused n) = missed n
 
+-- the number of the refusal, or 0
 abbrev pub ucs2Number : Ucs2Read → ℕ
 ucs2Number (ucs2.Read x c) = 0
 ucs2Number (ucs2.Refused n) = n

@@ -142,7 +142,7 @@ fn left_from(body: &[u8], at: usize) -> usize
 
 // The most that a string's count may be. A count of a string without an end, NONE, is above it whatever the limit: so one test tells both.
 fn longest(limit: usize) -> usize
-    ensures { λ r. ⌜ r ≡ min limit 18446744073709551614 ⌝ }
+    ensures { λ r. ⌜ r ≡ min limit (none - 1) ⌝ }
 {
     if limit < NONE { limit } else { NONE - 1 }
 }

@@ -11,7 +11,7 @@ use Rattle.format.specs.Fault.{holdsZero, overLimit, tooLong}
 use Rattle.format.proofs.Faults.{passed-is-valid, any-never}
 use Rattle.format.proofs.Lists.{concatMap-append, concatMap-map, concatMap-parts, all-front, all-behind, all-map}
 use Rattle.protocol.specs.Kind.{Kind, bodyOf, identifierFormat, fixtureDataFormat, fixtureHead, fixtureFormat, feedNameFormat, laserPointFormat}
-use Rattle.protocol.specs.Kind.{LaserFeedFrame}
+use Rattle.protocol.specs.Kind.{LaserFeedFrame, nameLimit}
 use Rattle.writing.specs.Call.{Part, feedName, laserFeedFrame, laserPoint, fixture, identifier, fixtureData}
 use Rattle.writing.specs.Call.{layoutOf, layoutFits, layoutZero, layoutOver, layoutLong, partBytes, headOf, identifiersOf, dataOf, fixtureParts, partsOf}
 use Rattle.writing.specs.Call.{Form, flat, fixtures, names, points, form, partsIn}
@@ -29,7 +29,8 @@ fixture-bytes x =
     ap (λ (t : List ℕ). partBytes (fixture (headOf x) (length ids)) ++ t)
     (concatMap-append partBytes (map identifier ids) (fixtureData (dataOf x) ∷ [])
     ∙ ap (λ (t : List ℕ). t ++ (encode fixtureDataFormat (dataOf x) ++ [])) (concatMap-map partBytes identifier ids))
-    ∙ regroup (encode (number 4) (x .0)) (encode (ucs2 255) (x .1 .0)) (encode (ucs2 255) (x .1 .1 .0)) (encode (ucs2 255) (x .1 .1 .1 .0))
+    ∙ regroup (encode (number 4) (x .0)) (encode (ucs2 nameLimit) (x .1 .0)) (encode (ucs2 nameLimit) (x .1 .1 .0))
+    (encode (ucs2 nameLimit) (x .1 .1 .1 .0))
     (encode (number 2) (x .1 .1 .1 .1 .0)) (encode (number 1) (x .1 .1 .1 .1 .1 .0)) (encode (number 1) (length ids))
     (concatMap (encode identifierFormat) ids) (encode fixtureDataFormat (dataOf x))
 

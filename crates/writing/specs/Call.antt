@@ -47,22 +47,27 @@ layoutOf (fixture v count) = counted fixtureHead v 1 count
 layoutOf (identifier v) = plain identifierFormat v
 layoutOf (fixtureData v) = plain fixtureDataFormat v
 
+-- its bytes
 abbrev pub layoutBytes : Layout → List ℕ
 layoutBytes (plain f v) = encode f v
 layoutBytes (counted f v w n) = encode f v ++ encode (number w) n
 
+-- its numbers, elements and codes fit the types of the parameters
 abbrev pub layoutFits : Layout → Type 0
 layoutFits (plain f v) = Fits f v
 layoutFits (counted f v w n) = Fits f v
 
+-- a string of it holds a zero
 abbrev pub layoutZero : Layout → Bool
 layoutZero (plain f v) = holdsZero f v
 layoutZero (counted f v w n) = holdsZero f v
 
+-- a string of it is longer than its limit
 abbrev pub layoutOver : Layout → Bool
 layoutOver (plain f v) = overLimit f v
 layoutOver (counted f v w n) = overLimit f v
 
+-- a list of it, or its count, is too long for its field
 abbrev pub layoutLong : Layout → Bool
 layoutLong (plain f v) = tooLong f v
 layoutLong (counted f v w n) = tooLong f v || leb (256 ^ w) n
