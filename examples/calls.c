@@ -292,7 +292,7 @@ static void book(void) {
     CHECK(citp_book_taken(1, entries, 2, 3) == 512 && citp_book_first_free(1, entries, 2, 3) == 512);
 }
 
-/* ---- strings at their limit and past it, read where no packet's walk comes first: a book's message, lists that are stepped through */
+/* ---- strings past their limit, where no packet's walk comes first: a book's message, lists that are stepped through */
 
 static void limits(void) {
     uint8_t ptch[8 + 257 + 1] = {9}, names[2 * 257] = {0};
@@ -307,7 +307,7 @@ static void limits(void) {
     CHECK(citp_fixtures_next(lamp, sizeof lamp, 0, 1).number == 19);
 }
 
-/* ---- and written: each string of each call, with its limit and with one byte or unit more */
+/* ---- each string of each call written, with as many bytes or units as its limit and with one more: `call` is made by `at` and `n` */
 
 static uint16_t name[256];
 static uint8_t bytes[65536], packet[66000];

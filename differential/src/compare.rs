@@ -24,8 +24,9 @@ pub fn due<T: Body>(answer: &Answer<T>, body: &[u8]) -> Result<u8, String> {
         (Answer::Read(value, taken), 0) => parts == Ok(*taken) && rewritten(value, *taken),
         (Answer::Read(value, taken), 19) => rewritten(value, *taken),
         (Answer::Read(..), 8) => T::NAME == "EnterShow",
-        (Answer::UnexpectedEof, 7 | 8) | (Answer::Unreachable, 9 | 10) => true,
-        _ => number == 19,
+        (Answer::UnexpectedEof, number) => matches!(number, 7 | 8 | 19),
+        (Answer::Unreachable, number) => matches!(number, 9 | 10 | 19),
+        _ => false,
     };
     if borne_out {
         Ok(number)
@@ -150,8 +151,8 @@ pub fn short<T: Compared>(tally: &mut Tally) {
     bodies::short(T::SHAPE, &mut |body_| body::<T>(body_, &mut scratch, tally));
 }
 
-/// Of a body with a string around the limits: that string without its end; so many cuts behind it, copies damaged behind
-/// it and copies damaged anywhere.
+/// Of a body with a string around the limits: that string without its end; eight cuts behind it, eight copies damaged
+/// behind it and eight damaged anywhere.
 fn broken(whole: &[u8], text: Text, random: &mut Random) -> Vec<Vec<u8>> {
     let (front, behind) = whole.split_at(text.end());
     let unended = (1..=text.width).map(|n| front[..front.len() - n].to_vec());

@@ -103,6 +103,9 @@ fn reading() {
         let next = library::identifiers_next(body, 0, 1);
         show(&format!("Identifier {}", hex(body)), rust, format!("number {}, given {}", next.number, next.given));
     }
+}
+
+fn headers_and_ends() {
     entry(4, "The base header's values");
     let header =
         |major: u8, size: u32| [b"CITP", &[major, 0, 0, 0][..], &size.to_le_bytes(), &[1, 0, 0, 0], b"SDMX"].concat();
@@ -451,6 +454,7 @@ pub fn show_all() {
          (differential/src/canon.rs)."
     );
     reading();
+    headers_and_ends();
     limits();
     zero_in_strings();
     counts_cut();

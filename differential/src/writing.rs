@@ -106,8 +106,8 @@ fn packet_refused<T: Given>(value: &T, due: &[u8], room: usize, refusal: &Refusa
     // the size field is 0 until close
     let mut due = due.to_vec();
     due[8..12].fill(0);
-    let of_body = stands.saturating_sub(T::Layer::LENGTH);
-    opened && number == refusal.number && refusal.stands.contains(&of_body) && holds(&out, 0, &due[..stands])
+    let at_its_call = stands.checked_sub(T::Layer::LENGTH).is_some_and(|of_body| refusal.stands.contains(&of_body));
+    opened && number == refusal.number && at_its_call && holds(&out, 0, &due[..stands])
 }
 
 /// The last call is refused.

@@ -49,7 +49,7 @@ pub ucs2-then-limit : (limit : ℕ) (s xs t : List ℕ) → decodeUcs2 s ≡ got
 unfolding decode
 ucs2-then-limit limit s xs t e h = rw (e, lt-ltb limit (length xs) h)
 
--- the rows of a write, tested from the top: each breaks its own and every row behind it
+-- the rows of a write, tested from the top: each of the five breaks its own and every row behind it
 pub write-rows :
     (weighed true true true 16777217 0 ≡ 11)
     × (weighed false true true 16777217 0 ≡ 19)

@@ -31,7 +31,7 @@ unfoldable pub packet : Message → List ℕ
 unfolding headersOf packetSize
 packet m = headersOf (m .kind) (packetSize m) (m .request) (m .hint) ++ encode (bodyOf (m .kind)) (m .value)
 
--- what can be sent: numbers that fit, strings within their limits and without a zero, lists that fit their counts, a packet within its limit
+-- what can be sent: numbers that fit, strings without a zero and within their limits, lists that fit their counts, a packet within its own
 pub record Sendable (m : Message) : Type 0 where
   pub request-fits : m .request < 65536
   pub hint-fits : m .hint < 4294967296
