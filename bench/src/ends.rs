@@ -1,8 +1,8 @@
 //! A string's end.
 use crate::inputs::letters;
 use crate::library;
-use crate::limits::limit;
 use crate::measure::Row;
+use crate::parts::limit;
 use crate::rows::row;
 use std::hint::black_box;
 

@@ -1,7 +1,7 @@
 //! Bodies, values and streams that both sides get.
 use crate::bodies::Part;
 use crate::given::{Given, Layer};
-use crate::limits::limit;
+use crate::parts::limit;
 use crate::rust::Body;
 use citp::protocol;
 

@@ -15,10 +15,10 @@ mod kinds;
 #[allow(dead_code)]
 #[path = "../../bindings/rust/citp.rs"]
 mod library;
-#[allow(dead_code)]
-#[path = "../../differential/src/limits.rs"]
-mod limits;
 mod measure;
+#[allow(dead_code)]
+#[path = "../../differential/src/parts.rs"]
+mod parts;
 #[allow(dead_code)]
 #[path = "../../differential/src/pens.rs"]
 mod pens;

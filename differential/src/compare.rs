@@ -1,8 +1,8 @@
 //! One body read by both and, where it is read, written by both.
 use crate::bodies::{self, damage, Size};
 use crate::canon::written;
-use crate::limits::{self, Stop, Text};
 use crate::ours::{self, Ours};
+use crate::parts::{self, Stop, Text};
 use crate::random::Random;
 use crate::rust::{self, Answer, Body};
 use crate::tally::{hex, Tally};
@@ -17,11 +17,11 @@ impl<T: Body + Ours + Writes> Compared for T {}
 /// bytes that the parts take and writes them again, its `UnexpectedEof` is 7 or 8, its panic at a type byte 9 or 10. It
 /// takes an `EnterShow` without a zero unit, and has no limit of a string: behind 19 it may make of a body what it will.
 pub fn due<T: Body>(answer: &Answer<T>, body: &[u8]) -> Result<u8, String> {
-    let parts = limits::taken::<T>(body);
-    let number = parts.map_or_else(Stop::number, |_| 0);
+    let by_parts = parts::taken::<T>(body);
+    let number = by_parts.map_or_else(Stop::number, |_| 0);
     let rewritten = |value: &T, taken: usize| written(value) == body[..taken];
     let borne_out = match (answer, number) {
-        (Answer::Read(value, taken), 0) => parts == Ok(*taken) && rewritten(value, *taken),
+        (Answer::Read(value, taken), 0) => by_parts == Ok(*taken) && rewritten(value, *taken),
         (Answer::Read(value, taken), 19) => rewritten(value, *taken),
         (Answer::Read(..), 8) => T::NAME == "EnterShow",
         (Answer::UnexpectedEof, number) => matches!(number, 7 | 8 | 19),
@@ -170,7 +170,7 @@ fn broken(whole: &[u8], text: Text, random: &mut Random) -> Vec<Vec<u8>> {
 /// Strings of the lengths around the limits: whole, without their end, and in cut and damaged bodies.
 pub fn limits<T: Compared>(random: &mut Random, tally: &mut Tally) {
     let mut scratch = Scratch::default();
-    for (whole, text) in limits::around::<T>(&limits::LENGTHS, random) {
+    for (whole, text) in parts::around::<T>(&parts::LENGTHS, random) {
         let others = broken(&whole, text, random);
         [whole].iter().chain(&others).for_each(|seen| body::<T>(seen, &mut scratch, tally));
     }

@@ -9,8 +9,8 @@ mod kinds;
 #[allow(dead_code)]
 #[path = "../../bindings/rust/citp.rs"]
 mod library;
-mod limits;
 mod ours;
+mod parts;
 mod pens;
 mod plant;
 mod random;

@@ -2,7 +2,7 @@
 use crate::canon::{self, Canon};
 use crate::kinds::kinds;
 use crate::library;
-use crate::limits::Text;
+use crate::parts::Text;
 use crate::plant;
 use citp::protocol::{caex, finf, fptc, fsel, pinf, sdmx, Header};
 

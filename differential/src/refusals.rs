@@ -1,7 +1,7 @@
 //! Calls that are to be refused: the number, and output and state as they were.
 use crate::compared::KINDS;
 use crate::library::{self, ChannelLevel, FixtureData};
-use crate::limits;
+use crate::parts;
 use crate::pens::{Alone, At, Call, Packet, Pen, BODIES, ITEMS};
 use crate::tally::Tally;
 use crate::writing::{blank, holds};
@@ -39,7 +39,7 @@ fn with_zeros<T: From<u8>>() -> [Vec<T>; 4] {
 
 /// The limit of the strings of calls at this place.
 fn limit_at(place: Place) -> usize {
-    limits::limit(KINDS[place.0 as usize].name)
+    parts::limit(KINDS[place.0 as usize].name)
 }
 
 /// The strings of a call, empty but for those given by their numbers.

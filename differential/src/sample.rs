@@ -7,7 +7,7 @@ use crate::bodies::{damage, good, Size};
 use crate::canon::Canon;
 use crate::compare::due;
 use crate::compared::KINDS;
-use crate::limits;
+use crate::parts;
 use crate::random::Random;
 use crate::rust::{read, Answer, Body};
 use crate::writing::Writes;
@@ -57,7 +57,7 @@ fn bodies<T: Body>() -> BTreeSet<Vec<u8>> {
         }
     }
     // of any length
-    bodies.extend(limits::around::<T>(&[255, 256], &mut random).into_iter().map(|(body, _)| body));
+    bodies.extend(parts::around::<T>(&[255, 256], &mut random).into_iter().map(|(body, _)| body));
     bodies
 }
 

@@ -3,8 +3,8 @@
 use crate::canon::written;
 use crate::given::{Given, Layer};
 use crate::library;
-use crate::limits::{self, Stop, Text};
 use crate::ours::is_copied;
+use crate::parts::{self, Stop, Text};
 use crate::pens::{Alone, At, Packet};
 use crate::plant;
 use crate::rust::Body;
@@ -166,7 +166,7 @@ impl<T: Given + Body> Writes for T {
     fn compare_writing(&self, due: &[u8]) -> Result<(), &'static str> {
         compare_size(self, due.len())?;
         let packet = self.message(due.len(), REQUEST_INDEX, CONTENT_HINT);
-        if let Err(Stop::PastLimit(text)) = limits::taken::<T>(due) {
+        if let Err(Stop::PastLimit(text)) = parts::taken::<T>(due) {
             compare_past_limit(self, due, &packet, text)?;
             return compare_walk::<T>(&packet, true);
         }

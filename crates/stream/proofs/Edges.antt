@@ -1,11 +1,12 @@
 -- The edges, by computation: the table that is proved, and more of them.
+use Prim.Native.Nat.{ℕ}
 use mathlib.Core.Path.{_≡_, refl}
-use mathlib.Core.Bool.{true, false}
+use mathlib.Core.Bool.{Bool, true, false}
 use mathlib.Core.List.{[], _∷_, _++_}
 use mathlib.Core.Option.{none, some}
 use lib.ListN.{replicate}
 use Rattle.format.specs.Format.{concatMap, decodeNumber, decodeItems, decodeCString, decodeUcs2, decode, encodeNumber, encode, size, total}
-use Rattle.format.specs.Fault.{any, holdsZero, overLimit, tooLong}
+use Rattle.format.specs.Fault.{any, holdsZero, overLimit, tooLong, weighed}
 use Rattle.format.specs.View.{seen, missed, place, placed, view, look}
 use Rattle.format.specs.Walk.{walkFrom}
 use Rattle.protocol.specs.Layer.{find, layerOf}
@@ -47,16 +48,11 @@ pub sizes :
 unfolding walk walkFrom stepAt contentAt readBody layerOf kindOf find decode decodeNumber
 sizes = (refl, refl, refl)
 
--- the rows of the writer, tested from the top: everything wrong is 14, and so on
+-- a call out of turn is 14, whatever else is wrong; one in turn is weighed as any write, by the rows of `write-rows` (format)
 pub writer-rows :
     (weigh false true true true 16777217 0 ≡ 14)
-    × (weigh true true true true 16777217 0 ≡ 11)
-    × (weigh true false true true 16777217 0 ≡ 19)
-    × (weigh true false false true 16777217 0 ≡ 12)
-    × (weigh true false false false 16777217 0 ≡ 15)
-    × (weigh true false false false 16777216 16777215 ≡ 13)
-    × (weigh true false false false 16777216 16777216 ≡ 0)
-writer-rows = (refl, refl, refl, refl, refl, refl, refl)
+    × ((zeros over long : Bool) (end room : ℕ) → weigh true zeros over long end room ≡ weighed zeros over long end room)
+writer-rows = (refl, λ zeros over long end room. refl)
 
 -- 255 laser feed names are taken, 256 are 12; a state before its headers' end is 14
 pub counts :

@@ -1,5 +1,5 @@
-//! The limits of strings (docs/DIFFERENCES.md 28). A body is gone through by its parts, apart from the Rust's readers
-//! and from ours: this tells the number that is due, and makes bodies with strings of the lengths around the limits.
+//! A body gone through by its parts, apart from the Rust's readers and from ours: the number that is due, and bodies
+//! with strings of the lengths around their limits (docs/DIFFERENCES.md 28).
 use crate::bodies::{good, Part, Size};
 use crate::random::Random;
 use crate::rust::Body;
