@@ -38,7 +38,7 @@ class Body:
 
 
 def escaped(units):
-    return ''.join(chr(u) if 32 <= u <= 126 else '\\%04X' % u for u in units)
+    return ''.join(chr(u) if 32 <= u <= 126 and u != ord('\\') else '\\%04X' % u for u in units)
 
 
 # a field is a function of a body that gives its lines

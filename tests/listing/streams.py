@@ -144,6 +144,13 @@ LIMITS = [
     packet(b'CAEX', 0x00020201, lamp(('', '', ''), 'x' * 256, identifiers=[identifier(6, b'')])),  # 10
 ]
 
+# names that a wrong escape could list alike: é, a backslash and the digits 00E9, escapes of these, and parts of them; two in units alone
+LOOKALIKES = ['é', '\\00E9', '\\005C00E9', '\\005C005C00E9', '\\', '\\\\', '\\005C', '\\005C005C', '\\0E9', '\x0e9', '\\000E9', '\\5C', '00E9', 'É']
+NAMES = [
+    *[packet(b'CAEX', 0x00020201, lamp(('', name, ''))) for name in [*LOOKALIKES, 'Ā0', '\u1000']],
+    *[packet(b'PINF', b'PNam', name.encode('latin-1') + b'\0') for name in LOOKALIKES],
+]
+
 ALL = b''.join(MESSAGES + OTHERS)
 SHORT = MESSAGES[2]
 
@@ -152,6 +159,7 @@ STREAMS = {
     'empty': b'',
     'kinds': ALL + SHORT[:-1],
     'limits': b''.join(LIMITS),
+    'names': b''.join(NAMES),
     'end_0': SHORT + SHORT,
     'end_1': SHORT + bytes(19),
     'end_2': SHORT + b'CITp' + SHORT[4:],
@@ -160,6 +168,16 @@ STREAMS = {
     'end_4_large': packet(b'SDMX', b'', size=16777217),
     'end_5': SHORT + packet(b'SDMX', b'', size=16777216),
 }
+
+
+def renamed(name):
+    """The small rig with another name for its first lamp."""
+    rig = pathlib.Path('../../venues/small-rig.citp').read_bytes()
+    old, new = ucs2('Source Four 26deg'), ucs2(name)
+    at = rig.index(old)
+    start = rig.rindex(b'CITP', 0, at)
+    size = int.from_bytes(rig[start + 8:start + 12], 'little') + len(new) - len(old)
+    return rig[:start + 8] + size.to_bytes(4, 'little') + rig[start + 12:at] + new + rig[at + len(old):]
 
 
 def long_streams():
@@ -216,8 +234,12 @@ def compare_all(program, streams, reference):
 
 def compare(program, n):
     rng = random.Random(6)
-    some = [damaged(rng, [rng.choice(MESSAGES + OTHERS + LIMITS) for _ in range(rng.randrange(1, 6))]) for _ in range(n)]
-    compare_all(program, [*long_streams(), *some], lambda stream: listing(stream[:65536]))
+    some = [damaged(rng, [rng.choice(MESSAGES + OTHERS + LIMITS + NAMES) for _ in range(rng.randrange(1, 6))]) for _ in range(n)]
+    rigs = [renamed('Source Four \\00E9'), renamed('Source Four é')]
+    compare_all(program, [*long_streams(), *rigs, *some], lambda stream: listing(stream[:65536]))
+    first, second = ([line for line in listing(rig).splitlines() if line.startswith('fixture_name=')] for rig in rigs)
+    if first == second:
+        sys.exit('a lamp named by a backslash and four digits is listed as one named by the character')
 
 
 if __name__ == '__main__':

@@ -1,13 +1,14 @@
 -- Laws of digits and of escaped bytes and units.
 use Prim.Native.Nat.{ℕ, zero, suc, _+_, _/_, _%_, _^_, _≤_, _<_}
 use mathlib.Core.Path.{_≡_, refl, sym, ap, _∙_}
+use mathlib.Core.Bool.{Bool, true, false, _||_, true≢false}
 use mathlib.Core.List.{List, [], _∷_, _++_}
 use native.Mathlib.Nat.{div-div-eq-div-mul, div-one, div-lt-iff-lt-mul, pow-suc}
 use native.Mathlib.Omega.{arith}
-use borrow.Author.Tests.{lt-ltb, le-ltb}
-use lib.Dec.{ltb}
+use borrow.Author.Tests.{ltb-false, lt-ltb, le-ltb}
+use lib.Dec.{ltb, eqb}
 use Rattle.format.specs.Format.{pick}
-use Rattle.text.specs.Text.{digit, hex, decimalUpTo, decimal, coded, escape}
+use Rattle.text.specs.Text.{digit, hex, decimalUpTo, decimal, coded, isCoded, escape}
 
 pub digit-low : (d : ℕ) → d < 10 → 48 + d ≡ digit d
 unfolding digit
@@ -53,14 +54,17 @@ decimal-high n h m =
     let g : n / 10 < 10 ^ 19 = omega arith in
     ap (λ (l : List ℕ). l ++ ((48 + n % 10) ∷ [])) (sym (enough 18 (n / 10) g)) ∙ last-digit 19 n h
 
-pub escape-below : (u : ℕ) → u < 32 → coded u ≡ escape u
-unfolding escape
-escape-below u h = rw (lt-ltb u 32 h) refl
+pub itself-below : (u : ℕ) → isCoded u ≡ false → u ≤ 126
+itself-below u = by (ltb u 32) (ltb 126 u) refl where
+  by : (a b : Bool) → ltb 126 u ≡ b → (a || (b || eqb u 92)) ≡ false → u ≤ 126
+  by true b p e = absurd (true≢false e)
+  by false true p e = absurd (true≢false e)
+  by false false p e = ltb-false 126 u p
 
-pub escape-above : (u : ℕ) → 32 ≤ u → 126 < u → coded u ≡ escape u
+pub escape-coded : (u : ℕ) → isCoded u ≡ true → coded u ≡ escape u
 unfolding escape
-escape-above u g h = rw (le-ltb u 32 g, lt-ltb 126 u h) refl
+escape-coded u e = rw e refl
 
-pub escape-itself : (u : ℕ) → 32 ≤ u → u ≤ 126 → u ∷ [] ≡ escape u
+pub escape-itself : (u : ℕ) → isCoded u ≡ false → u ∷ [] ≡ escape u
 unfolding escape
-escape-itself u g h = rw (le-ltb u 32 g, le-ltb 126 u h) refl
+escape-itself u e = rw e refl

@@ -1,12 +1,12 @@
 -- Each from text as a write of its parts: what `search` makes the answers of the functions from.
 use Prim.Native.Nat.{ℕ, _+_, _/_, _%_, _^_, _≤_, _<_}
 use mathlib.Core.Path.{_≡_}
+use mathlib.Core.Bool.{true, false}
 use mathlib.Core.List.{List, [], _∷_}
-use native.Mathlib.Omega.{arith}
 use Rattle.text.specs.Prints.{Prints}
 use Rattle.text.proofs.Prints.{put-then}
-use Rattle.text.specs.Text.{digit, hex, decimal, coded, escape, keyed, line}
-use Rattle.text.proofs.Digits.{hex-2, hex-4, hex-8, decimal-low, decimal-high, escape-below, escape-above, escape-itself}
+use Rattle.text.specs.Text.{digit, hex, decimal, coded, isCoded, escape, keyed, line}
+use Rattle.text.proofs.Digits.{hex-2, hex-4, hex-8, decimal-low, decimal-high, escape-coded, escape-itself}
 
 -- the text may be given by what it equals
 pub put-same : {from : ℕ} {xs ys o o′ : List ℕ} {p r : ℕ} → Prints from xs p o r o′ → xs ≡ ys → Prints from ys p o r o′
@@ -38,18 +38,15 @@ module _ {o o₁ : List ℕ} {p r : ℕ} where
   pub put-digit : {from : ℕ} (n : ℕ) → n < 10 → Prints from ((48 + n) ∷ []) p o r o₁ → Prints from (decimal n) p o r o₁
   put-digit n h x = put-same x (decimal-low n h)
 
-  pub put-below : {from : ℕ} (u : ℕ) → u < 32 → Prints from (coded u) p o r o₁ → Prints from (escape u) p o r o₁
-  put-below u h x = put-same x (escape-below u h)
+  pub put-as-code : {from : ℕ} (u : ℕ) → isCoded u ≡ true → Prints from (coded u) p o r o₁ → Prints from (escape u) p o r o₁
+  put-as-code u e x = put-same x (escape-coded u e)
 
-  pub put-above : {from : ℕ} (u : ℕ) → 126 < u → Prints from (coded u) p o r o₁ → Prints from (escape u) p o r o₁
-  put-above u h x = put-same x (escape-above u (omega arith) h)
-
-  pub put-itself : {from : ℕ} (u : ℕ) → 32 ≤ u → u ≤ 126 → Prints from (u ∷ []) p o r o₁ → Prints from (escape u) p o r o₁
-  put-itself u g h x = put-same x (escape-itself u g h)
+  pub put-itself : {from : ℕ} (u : ℕ) → isCoded u ≡ false → Prints from (u ∷ []) p o r o₁ → Prints from (escape u) p o r o₁
+  put-itself u e x = put-same x (escape-itself u e)
 
 pub put-line : {from : ℕ} (key value : List ℕ) {o o₁ o₂ o₃ : List ℕ} {p q r t : ℕ}
     → Prints from (keyed key) p o q o₁ → Prints from value q o₁ r o₂ → Prints from (10 ∷ []) r o₂ t o₃ → Prints from (line key value) p o t o₃
 unfolding line
 put-line key value k v e = put-then k (put-then v e)
 
-pub ruleset texts = (put-hex-2, put-hex-4, put-hex-8, put-coded, put-digit, put-digits, put-below, put-above, put-itself, put-keyed, put-line)
+pub ruleset texts = (put-hex-2, put-hex-4, put-hex-8, put-coded, put-digit, put-digits, put-as-code, put-itself, put-keyed, put-line)

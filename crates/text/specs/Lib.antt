@@ -1,2 +1,3 @@
 pub mod Prints
 pub mod Text
+pub mod Claims

@@ -3,8 +3,9 @@ use Prim.Native.Nat.{ℕ, zero, suc, _+_, _/_, _%_, _^_}
 use Prim.Native.Char.{code}
 use Prim.Native.String as string
 use Prim.Native.String.{String}
+use mathlib.Core.Bool.{Bool, _||_}
 use mathlib.Core.List.{List, [], _∷_, _++_}
-use lib.Dec.{ltb}
+use lib.Dec.{ltb, eqb}
 use Rattle.format.specs.Format.{pick, concatMap}
 
 -- the characters of a quoted text
@@ -35,10 +36,14 @@ decimal n = decimalUpTo 20 n
 unfoldable pub coded : ℕ → List ℕ
 coded u = 92 ∷ hex 4 u
 
--- a byte or unit from 32 to 126 as itself, another one coded
+-- whether a byte or unit prints so: below 32, above 126, and a backslash
+abbrev pub isCoded : ℕ → Bool
+isCoded u = ltb u 32 || (ltb 126 u || eqb u 92)
+
+-- a byte or unit, coded or as itself
 unfoldable pub escape : ℕ → List ℕ
 unfolding coded
-escape u = pick (ltb u 32) (coded u) (pick (ltb 126 u) (coded u) (u ∷ []))
+escape u = pick (isCoded u) (coded u) (u ∷ [])
 
 -- a string, escaped
 abbrev pub escaped : List ℕ → List ℕ

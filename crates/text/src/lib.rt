@@ -5,7 +5,8 @@ ghost use mathlib.Core.List.{[], _∷_};
 ghost use Prim.Native.Nat.{_+_, _*_, _/_, _%_};
 ghost use Rattle.format.specs.View.{unitsOf};
 ghost use Rattle.text.specs.Prints.{Prints};
-ghost use Rattle.text.specs.Text.{digit as digitOf, hex, decimal, coded, escape, escaped, hexBlock, keyed, line};
+ghost use Rattle.text.specs.Text.{digit as digitOf, hex, decimal, coded, isCoded, escape, escaped, hexBlock, keyed, line};
+use put::either;
 
 fn put_char(out: &mut [u8], from: u32, at: usize, c: u8) -> usize
     ensures { λ r. ⌜ Prints from (c ∷ []) at (now (out .entry)) r (now (out .exit)) ⌝ }
@@ -73,14 +74,17 @@ fn put_coded(out: &mut [u8], from: u32, at: usize, unit: u16) -> usize
     put_hex_4(out, from, at, unit as usize)
 }
 
+fn is_coded(unit: u16) -> bool
+    ensures { λ r. ⌜ r ≡ isCoded unit ⌝ }
+{
+    either(unit < 32, either(126 < unit, unit == 92))
+}
+
 // A byte or unit.
 pub fn put_escape(out: &mut [u8], from: u32, at: usize, unit: u16) -> usize
     ensures { λ r. ⌜ Prints from (escape unit) at (now (out .entry)) r (now (out .exit)) ⌝ }
 {
-    if unit < 32 {
-        return put_coded(out, from, at, unit);
-    }
-    if 126 < unit {
+    if is_coded(unit) {
         return put_coded(out, from, at, unit);
     }
     put_char(out, from, at, unit as u8)
