@@ -1,6 +1,7 @@
 #!/usr/bin/env python3
 """streams.py write: the streams of this folder (.in) and their listings (.out), by reference.py; `kinds` is the program's stored run too.
-streams.py compare PROGRAM N: lists long streams, and N random and damaged ones, by PROGRAM and by reference.py; they must agree."""
+streams.py compare PROGRAM N: lists long streams, the small rig with a lamp renamed, and N random and damaged ones, by PROGRAM and by
+reference.py; they must agree, and a lamp named by a backslash and four digits must not be listed as one named by the character."""
 import pathlib
 import random
 import struct
@@ -229,7 +230,7 @@ def compare_all(program, streams, reference):
         if got != reference(stream).encode('ascii'):
             pathlib.Path('differs.in').write_bytes(stream)
             sys.exit('a listing differs: differs.in')
-    print('%d long, random and damaged streams: alike' % len(streams))
+    print('%d streams by both: alike' % len(streams))
 
 
 def compare(program, n):
