@@ -1,4 +1,4 @@
--- The name é of a laser feed, and the name of a backslash and its four digits: each is a field of its message, in a list, and by their lines they differ.
+-- A laser feed named é, and one named by a backslash and the digits 00E9: each name is a field of its message, in a list, and their lines differ.
 use Prim.Native.Nat.{ℕ}
 use mathlib.Core.Path.{_≡_, refl}
 use mathlib.Core.List.{List, [], _∷_, _++_}

@@ -6,7 +6,7 @@ use mathlib.Core.List.{List, [], _∷_, _++_}
 use native.Mathlib.Nat.{div-div-eq-div-mul, div-one, div-lt-iff-lt-mul, pow-suc}
 use native.Mathlib.Omega.{arith}
 use borrow.Author.Tests.{ltb-false, lt-ltb, le-ltb}
-use lib.Dec.{ltb, eqb}
+use lib.Dec.{ltb}
 use Rattle.format.specs.Format.{pick}
 use Rattle.text.specs.Text.{digit, hex, decimalUpTo, decimal, coded, isCoded, escape}
 
@@ -55,11 +55,11 @@ decimal-high n h m =
     ap (λ (l : List ℕ). l ++ ((48 + n % 10) ∷ [])) (sym (enough 18 (n / 10) g)) ∙ last-digit 19 n h
 
 pub itself-below : (u : ℕ) → isCoded u ≡ false → u ≤ 126
-itself-below u = by (ltb u 32) (ltb 126 u) refl where
-  by : (a b : Bool) → ltb 126 u ≡ b → (a || (b || eqb u 92)) ≡ false → u ≤ 126
-  by true b p e = absurd (true≢false e)
-  by false true p e = absurd (true≢false e)
-  by false false p e = ltb-false 126 u p
+itself-below u = by (ltb u 32) (ltb 126 u) _ refl where
+  by : (a b c : Bool) → ltb 126 u ≡ b → (a || (b || c)) ≡ false → u ≤ 126
+  by true b c p e = absurd (true≢false e)
+  by false true c p e = absurd (true≢false e)
+  by false false c p e = ltb-false 126 u p
 
 pub escape-coded : (u : ℕ) → isCoded u ≡ true → coded u ≡ escape u
 unfolding escape
