@@ -18,7 +18,7 @@ pub struct Size {
 
 pub const SMALL: Size = Size { string: 0, list: 0, block: 0, lamps: 1, feeds: 0, points: 0 };
 /// A venue of 100 lamps.
-const TYPICAL: Size = Size { string: 12, list: 100, block: 512, lamps: 100, feeds: 4, points: 500 };
+pub const TYPICAL: Size = Size { string: 12, list: 100, block: 512, lamps: 100, feeds: 4, points: 500 };
 /// The most that a count holds; strings at their limits; a packet of 1,000 lamps.
 const LARGEST: Size = Size { string: 65_535, list: 65_535, block: 65_535, lamps: 1_000, feeds: 255, points: 65_535 };
 

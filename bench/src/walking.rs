@@ -1,11 +1,12 @@
 //! Streams walked.
-use crate::inputs::{body, stream, Size, SMALL};
+use crate::given::Given;
+use crate::inputs::{body, stream, Size, SMALL, TYPICAL};
 use crate::library;
 use crate::measure::Row;
 use crate::reading::{read_body, read_ours};
 use crate::rows::{read, row};
 use crate::rust::Body;
-use citp::protocol::{self, sdmx, ReadBytesExt, LE};
+use citp::protocol::{self, caex, finf, fptc, fsel, pinf, sdmx, ReadBytesExt, LE};
 use std::hint::black_box;
 
 fn walk_rust(stream: &[u8]) -> u64 {
@@ -40,6 +41,11 @@ fn walk_ours(stream: &[u8], visit: impl Fn(&library::Step)) -> u64 {
     }
 }
 
+/// A hundred packets of one kind.
+fn hundred<T: Given + Body>() -> &'static [u8] {
+    stream::<T>(&body(T::SHAPE, TYPICAL), 100).leak()
+}
+
 pub fn rows(rows: &mut Vec<Row>) {
     let blocks =
         |levels, times| &*stream::<sdmx::ChBk>(&body(sdmx::ChBk::SHAPE, Size { block: levels, ..SMALL }), times).leak();
@@ -50,6 +56,11 @@ pub fn rows(rows: &mut Vec<Row>) {
         ("100 channel blocks", blocks(512, 100)),
         ("1,000 channel blocks", blocks(512, 1_000)),
         ("a channel block of 65,535", blocks(65_535, 1)),
+        ("100 UPtc", hundred::<fptc::UPtc>()),
+        ("100 Sele", hundred::<fsel::Sele>()),
+        ("100 SFra", hundred::<finf::SFra>()),
+        ("100 PNam", hundred::<pinf::PNam>()),
+        ("100 FixtureRemove", hundred::<caex::FixtureRemove>()),
         ("the venue", venue),
     ];
     for (name, stream) in streams {

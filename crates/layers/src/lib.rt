@@ -25,13 +25,10 @@ pub enum LayerFound {
 }
 
 impl Layer {
-    // The layer of a cookie: the first in the order below that has it.
+    // The layer of a cookie. SDMX is tried first: channel blocks are nearly all the traffic.
     pub fn of(cookie: u32) -> LayerFound
         ensures { λ r. ⌜ layerSays r ≡ layerOf cookie ⌝ }
     {
-        if cookie == Pinf::COOKIE {
-            return LayerFound::Known(Layer::Pinf);
-        }
         if cookie == Sdmx::COOKIE {
             return LayerFound::Known(Layer::Sdmx);
         }
@@ -43,6 +40,9 @@ impl Layer {
         }
         if cookie == Finf::COOKIE {
             return LayerFound::Known(Layer::Finf);
+        }
+        if cookie == Pinf::COOKIE {
+            return LayerFound::Known(Layer::Pinf);
         }
         if cookie == Caex::COOKIE {
             return LayerFound::Known(Layer::Caex);

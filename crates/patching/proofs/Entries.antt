@@ -8,11 +8,11 @@ use native.Mathlib.Omega.{arith}
 use lib.ListN.{length}
 use lib.Dec.{ltb, eqb}
 use borrow.Author.Tests.{ltb-true, ltb-false, eqb-true, eqb-false}
-use Rattle.format.specs.Format.{pick, All}
+use Rattle.format.specs.Format.{pick, All, In, here, there}
 use Rattle.format.proofs.Faults.{all-both}
 use Rattle.format.proofs.Bools.{both, neither}
 use Rattle.patching.specs.Entry.{Entry, universe, channel, channelCount, insert, before, shares, end}
-use Rattle.patching.specs.Claims.{In, here, there, Pairs}
+use Rattle.patching.specs.Claims.{Pairs}
 use Rattle.patching.proofs.Cases.{not-both, or-true-cases}
 
 -- ---- insertion

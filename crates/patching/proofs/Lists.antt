@@ -5,10 +5,10 @@ use mathlib.Core.Bool.{Bool, true, false, not, _||_, true≢false}
 use mathlib.Core.List.{List, [], _∷_, _++_, map}
 use native.Mathlib.Omega.{arith}
 use lib.ListN.{length}
-use Rattle.format.specs.Format.{pick, All}
+use Rattle.format.specs.Format.{pick, All, In, here, there}
 use Rattle.format.specs.Fault.{any}
 use Rattle.patching.specs.Book.{filter}
-use Rattle.patching.specs.Claims.{In, here, there, Pairs}
+use Rattle.patching.specs.Claims.{Pairs}
 
 pub in-more : {A : Type 0} {x y : A} {k l : List A} → (In y k → In y l) → In y (x ∷ k) → In y (x ∷ l)
 in-more f here = here

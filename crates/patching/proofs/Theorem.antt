@@ -10,7 +10,7 @@ use lib.ListN.{length, take, drop, length-append, length-take, length-drop}
 use lib.Seq.{take-append-seam}
 use lib.Dec.{ltb, leb, eqb}
 use borrow.Author.Tests.{leb-true, leb-false, ltb-true, ltb-false, eqb-true, eq-eqb, le-leb, lt-ltb, le-ltb, not-true, not-false}
-use Rattle.format.specs.Format.{Value, Read, got, refused, pick, decode, All}
+use Rattle.format.specs.Format.{Value, Read, got, refused, pick, decode, All, In, here, there}
 use Rattle.format.specs.Fault.{any}
 use Rattle.format.proofs.Faults.{all-both}
 use Rattle.format.proofs.Codec.{read-back}
@@ -22,7 +22,7 @@ use Rattle.patching.specs.Entry.{sameKey, same, end, spans, holds, share
 use Rattle.patching.specs.Book.{filter, Message, ptch, uptc, Change, patch, unpatch, unread, asPatch, asUnpatch, change, drops, without, others, changed}
 use Rattle.patching.specs.Book.{misfits, clashes, isFull, number, settled, roomIn, held, overwrite, answer, takenAt, takenIn, freeIn}
 use Rattle.patching.specs.Claims as claims
-use Rattle.patching.specs.Claims.{In, here, there, Pairs, OfBytes, after, standing, Apart, total, feed, heldAfter}
+use Rattle.patching.specs.Claims.{Pairs, OfBytes, after, standing, Apart, total, feed, heldAfter}
 use Rattle.patching.proofs.Digits.{first-holds, first-none, many-or}
 use Rattle.patching.proofs.Cases.{and-rest, not-both, span-many}
 use Rattle.patching.proofs.Fields.{Narrow, entry-whole, fields-of}

@@ -7,17 +7,12 @@ use mathlib.Core.List.{List, [], _∷_, map}
 use mathlib.Core.Option.{Option, none, some}
 use lib.ListN.{length}
 use lib.Dec.{eqb}
-use Rattle.format.specs.Format.{pick, All, Bytes}
+use Rattle.format.specs.Format.{pick, All, In, Bytes}
 use Rattle.format.specs.Refusals.{refusals, isOneOf}
 use Rattle.protocol.specs.Kind.{bodyOf, Ptch, UPtc}
 use Rattle.patching.specs.Entry.{Entry, universe, channelCount, Fields, fields, Key, key, sameKey, same, holds}
 use Rattle.patching.specs.Book.{Message, ptch, uptc, Change, patch, unpatch, unread, change, drops, misfits}
 use Rattle.patching.specs.Book.{held, answer, takenAt, takenIn, freeIn}
-
--- x is one of the list
-pub data In {A : Type 0} (x : A) : List A → Type 0 where
-  here : {l : List A} → In x (x ∷ l)
-  there : {y : A} {l : List A} → In x l → In x (y ∷ l)
 
 -- R holds of each element and each behind it
 abbrev pub Pairs : {A : Type 0} → (A → A → Type 0) → List A → Type 0

@@ -44,18 +44,22 @@ hintLength l = pick (hasHint l) 4 0
 abbrev pub hinted : Layer → ℕ → Option ℕ
 hinted l hint = pick (hasHint l) (some hint) none
 
--- the order of lookup
+-- the order of lookup: channel blocks, which are SDMX, are nearly all the traffic
 abbrev pub layers : List Layer
-layers = PINF ∷ SDMX ∷ FPTC ∷ FSEL ∷ FINF ∷ CAEX ∷ []
+layers = SDMX ∷ FPTC ∷ FSEL ∷ FINF ∷ PINF ∷ CAEX ∷ []
 
 -- the first element that passes the test
 unfoldable pub find : {A : Type 0} → (A → Bool) → List A → Option A
 find test [] = none
 find test (x ∷ xs) = pick (test x) (some x) (find test xs)
 
+-- the first layer of a list that has the cookie
+abbrev pub layerIn : List Layer → ℕ → Option Layer
+layerIn order c = find (λ l. eqb (cookie l) c) order
+
 -- the layer of a cookie, if it is one of the six
 unfoldable pub layerOf : ℕ → Option Layer
-layerOf c = find (λ l. eqb (cookie l) c) layers
+layerOf c = layerIn layers c
 
 -- ---- the headers
 

@@ -3,3 +3,4 @@ pub mod Kind
 pub mod Step
 pub mod Message
 pub mod Packet
+pub mod Claims
