@@ -25,7 +25,7 @@ pub enum LayerFound {
 }
 
 impl Layer {
-    // The layer of a cookie. SDMX is tried first: channel blocks are nearly all the traffic.
+    // The layer of a cookie: the first in the order below that has it.
     pub fn of(cookie: u32) -> LayerFound
         ensures { λ r. ⌜ layerSays r ≡ layerOf cookie ⌝ }
     {

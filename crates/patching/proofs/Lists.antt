@@ -38,11 +38,6 @@ module _ {A : Type 0} where
   all-known f [] h a = tt
   all-known f (x ∷ k) h (a, more) = (f x (h x here) a, all-known f k (λ y i. h y (there i)) more)
 
-  pub all-in : (P : A → Type 0) {y : A} (l : List A) → In y l → All P l → P y
-  all-in P (x ∷ l) here (a, more) = a
-  all-in P (x ∷ l) (there i) (a, more) = all-in P l i more
-  all-in P [] i a = absurd (omega (arith, in-length [] i))
-
   -- what is kept passes the test
   module _ (p : A → Bool) where
     filter-case : (P : List A → Type 0) (x : A) (l : List A) → (p x ≡ true → P (x ∷ filter p l)) → (p x ≡ false → P (filter p l)) → P (filter p (x ∷ l))

@@ -12,6 +12,7 @@ use lib.Dec.{ltb, leb, eqb}
 use borrow.Author.Tests.{leb-true, leb-false, ltb-true, ltb-false, eqb-true, eq-eqb, le-leb, lt-ltb, le-ltb, not-true, not-false}
 use Rattle.format.specs.Format.{Value, Read, got, refused, pick, decode, All, In, here, there}
 use Rattle.format.specs.Fault.{any}
+use Rattle.format.proofs.Lists.{all-in}
 use Rattle.format.proofs.Faults.{all-both}
 use Rattle.format.proofs.Codec.{read-back}
 use Rattle.protocol.specs.Kind.{bodyOf, Ptch, UPtc}
@@ -26,7 +27,7 @@ use Rattle.patching.specs.Claims.{Pairs, OfBytes, after, standing, Apart
 use Rattle.patching.proofs.Digits.{first-holds, first-none, many-or}
 use Rattle.patching.proofs.Cases.{and-rest, not-both, span-many}
 use Rattle.patching.proofs.Fields.{Narrow, entry-whole, fields-of}
-use Rattle.patching.proofs.Lists.{in-length, in-map, of-map, all-map, all-known, all-in, all-filter, all-passed, pairs-filter}
+use Rattle.patching.proofs.Lists.{in-length, in-map, of-map, all-map, all-known, all-filter, all-passed, pairs-filter}
 use Rattle.patching.proofs.Lists.{in-filter, filter-in, filter-length, filter-less, none-of}
 use Rattle.patching.proofs.Entries.{all-insert, inserted, in-insert, insert-in, insert-length, pairs-insert, Fits, address, Clear, Good, Beside, beside}
 

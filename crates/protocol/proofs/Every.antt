@@ -6,7 +6,7 @@ use mathlib.Core.List.{List, [], _∷_}
 use mathlib.Core.Option.{Option, none, some}
 use lib.ListN.{getD}
 use borrow.Author.Tests.{eqb-true}
-use Rattle.format.specs.Format.{All, In, here, there}
+use Rattle.format.specs.Format.{All}
 use Rattle.format.proofs.Bools.{both}
 use Rattle.protocol.specs.Kind.{Kind, index, sameKind, kinds}
 use Rattle.protocol.specs.Kind as kind
@@ -49,11 +49,6 @@ pub every-all : {A : Type 0} (test : A → Bool) (xs : List A) → every test xs
 unfolding every
 every-all test [] e = tt
 every-all test (x ∷ xs) e = let b = both (test x) (every test xs) e in (b .0, every-all test xs (b .1))
-
-pub every-in : {A : Type 0} (test : A → Bool) {xs : List A} {x : A} → In x xs → every test xs ≡ true → test x ≡ true
-unfolding every
-every-in test {x = x} (here {l = xs}) e = both (test x) (every test xs) e .0
-every-in test (there {y = y} {l = xs} i) e = every-in test i (both (test y) (every test xs) e .1)
 
 -- what holds of every element holds of the one at a place, and of the default past the end
 all-at : {A : Type 0} (P : A → Type 0) (xs : List A) {d : A} → All P xs → P d → (n : ℕ) → P (getD xs n d)

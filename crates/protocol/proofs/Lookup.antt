@@ -10,11 +10,12 @@ use Rattle.format.specs.Format.{pick, In, here, there}
 use Rattle.format.specs.Fault.{any}
 use Rattle.format.specs.Refusals.{isOneOf}
 use Rattle.format.proofs.Bools.{both}
+use Rattle.format.proofs.Lists.{all-in}
 use Rattle.protocol.specs.Layer.{Layer, PINF, SDMX, FPTC, FSEL, FINF, CAEX, cookie, layers, find, layerIn, layerOf}
 use Rattle.protocol.specs.Kind.{Kind, layer, contentType, kinds, kindOf}
 use Rattle.protocol.specs.Packet.{NoLayer, NoKind}
-use Rattle.protocol.specs.Claims.{EveryLayer, AnyOrder, WalkOrder, LookupsAgree}
-use Rattle.protocol.proofs.Every.{every, every-in, found-kind}
+use Rattle.protocol.specs.Claims.{EveryLayer, AnyOrder, WalkLookup, LookupsAgree}
+use Rattle.protocol.proofs.Every.{every, every-all, found-kind}
 
 -- ---- what is found passed the test
 
@@ -114,12 +115,12 @@ layer-passed c l e =
 every-layer : EveryLayer layers
 every-layer l = layer-passed (cookie l) l (layer-found l) .0
 
-pub walk-order : WalkOrder
+pub walk-lookup : WalkLookup
 unfolding layerOf
-walk-order = any-order layers every-layer
+walk-lookup = any-order layers every-layer
 
 pub no-layer : (c : ℕ) → NoLayer c → layerOf c ≡ none
-no-layer = walk-order .1
+no-layer = walk-lookup .1
 
 -- a number unlike six numbers, among which is every cookie, is no layer's
 pub none-of : {c u v w x y z : ℕ} → (c ≡ u → ⊥) → (c ≡ v → ⊥) → (c ≡ w → ⊥) → (c ≡ x → ⊥) → (c ≡ y → ⊥) → (c ≡ z → ⊥)
@@ -127,9 +128,12 @@ pub none-of : {c u v w x y z : ℕ} → (c ≡ u → ⊥) → (c ≡ v → ⊥) 
 unfolding any
 none-of {c} {u} {v} {w} {x} {y} {z} not-u not-v not-w not-x not-y not-z all = no-layer c unlike
   where
+    has : ℕ → Bool
+    has n = isOneOf (u ∷ v ∷ w ∷ x ∷ y ∷ z ∷ []) n
+
     unlike : NoLayer c
     unlike l e =
-        let h : isOneOf (u ∷ v ∷ w ∷ x ∷ y ∷ z ∷ []) c ≡ true = rw e (every-in (λ l. isOneOf (u ∷ v ∷ w ∷ x ∷ y ∷ z ∷ []) (cookie l)) (every-layer l) all) in
+        let h : has c ≡ true = rw e (all-in (λ m. has (cookie m) ≡ true) layers (every-layer l) (every-all (λ m. has (cookie m)) layers all)) in
         false≢true
         (rw (ne-eqb c u not-u, ne-eqb c v not-v, ne-eqb c w not-w, ne-eqb c x not-x, ne-eqb c y not-y, ne-eqb c z not-z) at h)
 

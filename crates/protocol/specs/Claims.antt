@@ -19,14 +19,14 @@ SameLayers xs ys = (l : Layer) → (In l xs → In l ys) × (In l ys → In l xs
 abbrev pub ByCookie : (ℕ → Option Layer) → Type 0
 ByCookie lookup = ((l : Layer) → lookup (cookie l) ≡ some l) × ((c : ℕ) → NoLayer c → lookup c ≡ none)
 
--- any-order (Lookup): so does a lookup over any order of the six
+-- any-order: so does a lookup over any order of the six
 abbrev pub AnyOrder : Type 0
 AnyOrder = (order : List Layer) → EveryLayer order → ByCookie (layerIn order)
 
--- walk-order (Lookup): so does the lookup of the walk
-abbrev pub WalkOrder : Type 0
-WalkOrder = ByCookie layerOf
+-- walk-lookup: so does the lookup of the walk
+abbrev pub WalkLookup : Type 0
+WalkLookup = ByCookie layerOf
 
--- lookups-agree (Lookup): two lookups over lists with the same layers agree on every number
+-- lookups-agree: two lookups over lists with the same layers agree on every number
 abbrev pub LookupsAgree : Type 0
 LookupsAgree = (xs ys : List Layer) → SameLayers xs ys → (c : ℕ) → layerIn xs c ≡ layerIn ys c

@@ -44,7 +44,7 @@ hintLength l = pick (hasHint l) 4 0
 abbrev pub hinted : Layer → ℕ → Option ℕ
 hinted l hint = pick (hasHint l) (some hint) none
 
--- the order of lookup: channel blocks, which are SDMX, are nearly all the traffic
+-- the order of lookup, SDMX first: channel blocks are nearly all the traffic
 abbrev pub layers : List Layer
 layers = SDMX ∷ FPTC ∷ FSEL ∷ FINF ∷ PINF ∷ CAEX ∷ []
 
@@ -53,7 +53,7 @@ unfoldable pub find : {A : Type 0} → (A → Bool) → List A → Option A
 find test [] = none
 find test (x ∷ xs) = pick (test x) (some x) (find test xs)
 
--- the first layer of a list that has the cookie
+-- the first layer of the list whose cookie it is
 abbrev pub layerIn : List Layer → ℕ → Option Layer
 layerIn order c = find (λ l. eqb (cookie l) c) order
 
