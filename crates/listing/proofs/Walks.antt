@@ -5,14 +5,14 @@ use mathlib.Core.List.{List, _++_, append-assoc}
 use native.Mathlib.Nat.{zero-add, add-zero, sub-zero, zero-sub}
 use native.Mathlib.Omega.{arith}
 use borrow.Author.Needs as kit
-use lib.ListN.{length, drop, length-drop}
+use lib.ListN.{length, drop}
 use lib.Seq.{sets}
 use Rattle.format.specs.Format.{concatMap}
 use Rattle.format.specs.View.{View}
 use Rattle.format.specs.Walk.{Step, stop, report, Walked, follow, walkFrom}
 use Rattle.format.proofs.Chain.{met}
 use Rattle.protocol.specs.Step.{Report, stepAt, walk}
-use Rattle.protocol.proofs.Steps.{reported}
+use Rattle.protocol.proofs.Steps.{moved}
 use Rattle.text.specs.Prints.{Prints}
 use Rattle.text.proofs.Loops.{Onto, onto-none, onto-more}
 use Rattle.citp.specs.Says.{packetSays, stepSays}
@@ -21,10 +21,6 @@ use Rattle.citp.specs.declared.PacketReport.{PacketReport}
 use Rattle.citp.specs.declared.Step as declared
 use Rattle.citp.specs.declared.Step.the-variants as step
 use Rattle.listing.specs.Listing.{reportLines, endLines, endedLines, listing, Part}
-
--- a step goes on within the stream
-moved : (s : List ℕ) (at : ℕ) {r : Report View} {next : ℕ} → stepAt s at ≡ report r next → (at < next) × (next ≤ length s)
-moved s at e = let f = reported s at e in (omega arith, omega (arith, length-drop at s))
 
 -- ---- the loop
 
@@ -54,7 +50,7 @@ from s n at h e = let f : suc (length s) - n ≡ suc (suc (length s) - (n + 1)) 
 module _ {s : List ℕ} {n : ℕ} {x : declared.Step} {c : Cursor} {o o₀ : List ℕ} {p q : ℕ} where
   pub walking-less : {from : ℕ} {y : PacketReport} {d : Cursor} → stepSays x ≡ stepAt s (c .at) → x ≡ step.Packet y d → Walking from s n (c .at) q o p o₀
       → length s - d .at < length s - c .at
-  walking-less t i w = let m = moved s (c .at) (met stepSays t i) in omega (arith, m .0, m .1)
+  walking-less t i w = let m = moved s (c .at) (met stepSays t i) in omega (arith, m .on, m .within)
 
   pub walking-more : {from : ℕ} {y : PacketReport} {d : Cursor} {o′ : List ℕ} {q′ : ℕ} → stepSays x ≡ stepAt s (c .at) → x ≡ step.Packet y d → Walking from s n (c .at) q o p o₀
       → Prints from (reportLines s (packetSays y)) q o q′ o′ → Walking from s (n + 1) (d .at) q′ o′ p o₀
@@ -66,8 +62,8 @@ module _ {s : List ℕ} {n : ℕ} {x : declared.Step} {c : Cursor} {o o₀ : Lis
       let more = walkFrom stepAt (suc (length s) - (n + 1)) s (d .at) in
       let f : n + suc (length (more .0)) ≡ n + 1 + length (more .0) = omega arith in
       record {
-        counted = omega (arith, w .counted, m .0);
-        within = m .1;
+        counted = omega (arith, w .counted, m .on);
+        within = m .within;
         onto = onto-more (rw (from s n (c .at) k e, f, append-assoc) refl) (w .onto) a;
       }
 

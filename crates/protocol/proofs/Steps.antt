@@ -5,7 +5,7 @@ use mathlib.Core.Bool.{Bool, true, false, not, _||_}
 use mathlib.Core.List.{List}
 use native.Mathlib.Omega.{arith}
 use borrow.Author.Tests.{eqb-true, eq-eqb, ltb-false, le-ltb, not-false}
-use lib.ListN.{length, take, drop}
+use lib.ListN.{length, take, drop, length-drop}
 use lib.Dec.{ltb, eqb}
 use Rattle.format.specs.Format.{Value, Read, got, refused, pick, decode}
 use Rattle.format.proofs.Bools.{neither}
@@ -118,3 +118,21 @@ does-report (tells {h} {t} e s) = record { base = h; behind = t; reads-base = e;
 
 pub reported : (s : List ℕ) (at : ℕ) {r : Report View} {next : ℕ} → stepAt s at ≡ report r next → Reported at (drop at s) r next
 reported s at e = does-report (rw e at (step-does s at))
+
+-- a report is that of the packet at its offset, and the next packet stands 20 bytes behind it at least, within the stream
+pub record Moved (s : List ℕ) (at : ℕ) (r : Report View) (next : ℕ) : Type 0 where
+  pub starts : r .offset ≡ at
+  pub on : at + 20 ≤ next
+  pub within : next ≤ length s
+
+does-start : {at next : ℕ} {rest : List ℕ} {r : Report View} → Does at rest (report r next) → r .offset ≡ at
+does-start (tells e s) = refl
+
+pub moved : (s : List ℕ) (at : ℕ) {r : Report View} {next : ℕ} → stepAt s at ≡ report r next → Moved s at r next
+moved s at e =
+    let f = reported s at e in
+    record {
+      starts = does-start (rw e at (step-does s at));
+      on = omega (arith, f .next-is, f .starts-with .least);
+      within = omega (arith, f .next-is, f .starts-with .least, f .starts-with .within, length-drop at s);
+    }

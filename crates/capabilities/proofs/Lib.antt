@@ -1,0 +1,3 @@
+pub mod Messages
+pub mod Walks
+pub mod Calls

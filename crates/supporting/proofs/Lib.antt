@@ -1,0 +1,7 @@
+pub mod Walking
+pub mod Members
+pub mod Offsets
+pub mod Exact
+pub mod Packets
+pub mod Numbers
+pub mod Example
