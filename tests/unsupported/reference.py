@@ -1,6 +1,6 @@
 #!/usr/bin/env python3
-"""reference.py RECEIVER SENDER: the packets of a sender's stream that a receiver does not support, written from the request and not from the
-program.
+"""reference.py RECEIVER SENDER: the packets of a sender's stream that a receiver does not support, written from the request for them and
+not from the program.
 
 The packets and their fields are those of the second lister; the stored output of the program is this one's (`streams.py write`).
 """
@@ -27,6 +27,12 @@ def capabilities(stream):
         if kind(packet) == 'Capa':
             numbers = [int(value) for key, value in packet if key == 'capabilities']
     return numbers
+
+
+def is_whole(stream):
+    """Whether all of a stream can be read."""
+    *reports, end = packets(listing(stream))
+    return dict(end)['stop'] == '0' and not any(('report', 'refused') in packet for packet in reports)
 
 
 def unsupported(receiver, sender):

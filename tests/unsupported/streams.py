@@ -14,9 +14,10 @@ import tempfile
 sys.dont_write_bytecode = True
 sys.path.insert(0, str(pathlib.Path(__file__).resolve().parent.parent))
 from listing.streams import MESSAGES, OTHERS, damaged, packet, u16s
-from unsupported.reference import unsupported
+from unsupported.reference import is_whole, unsupported
 
 LONGEST = 65536
+UNREAD = "citp_unsupported: not all of the receiver's stream can be read: citp-list shows where\n"
 
 
 def capa(*numbers, added=b'', **header):
@@ -25,7 +26,8 @@ def capa(*numbers, added=b'', **header):
 
 def chls(*records, added=b'', **header):
     """A record: universe_index, channel, channel_level."""
-    return packet(b'SDMX', b'ChLs', struct.pack('<H', len(records)) + b''.join(struct.pack('<BHB', *record) for record in records) + added, **header)
+    levels = b''.join(struct.pack('<BHB', *record) for record in records)
+    return packet(b'SDMX', b'ChLs', struct.pack('<H', len(records)) + levels + added, **header)
 
 
 def sxus(universe_index, connection_string, **header):
@@ -38,11 +40,13 @@ PLOC = packet(b'PINF', b'PLoc', bytes(2) + b'ChLs\0Sxus\0Capa\0')
 NO_CAPA = [
     capa(1, 3, count=2),  # fragments
     capa(1, 3, part=1),
-    capa(1, 3)[:20] + b'SDMX' + u16s(1, 3),  # another content type
+    packet(b'SDMX', b'CAPA', u16s(1, 3)),  # unknown
     packet(b'MSEX', b'Capa', u16s(1, 3)),
+    PLOC,
+]
+REFUSED_CAPA = [
     packet(b'SDMX', b'Capa', u16s(1, 3)[:-1]),  # 7
     packet(b'SDMX', b'', b'Cap'),  # 6
-    PLOC,
 ]
 NO_LIST = [
     chls((1, 2, 3), count=2),
@@ -72,7 +76,8 @@ RECEIVERS = {
     'lists': capa(1),
     'sources': capa(101, 3, 3),
     'both': capa(3, 2, 1),
-    'changed': b''.join([capa(3, 1), PLOC, capa(), capa(2, 1, 104, added=b'\3\0'), *NO_CAPA]),
+    'others': b''.join([capa(3), *NO_CAPA]),
+    'changed': b''.join([capa(3, 1), PLOC, capa(), capa(2, 1, 104, added=b'\3\0'), *NO_CAPA, *REFUSED_CAPA]),
 }
 SENDERS = {
     'empty': b'',
@@ -83,7 +88,7 @@ STORED = [*((receiver, 'packets') for receiver in RECEIVERS), ('none', 'empty'),
 
 
 def long_pairs():
-    """Streams of as many bytes as are listed, or one more, of which nothing is."""
+    """Streams of the most bytes that are taken, and of more, of which nothing is listed."""
     most = capa(*[2] * 32754, 1)
     yield most, SENDERS['packets']
     yield most + b'C', SENDERS['packets']
@@ -98,7 +103,7 @@ def drawn(rng):
     """A receiver with some Capas and a sender with some of the packets that need them, among others."""
     numbers = (1, 3, 2, 0, 257, 259, 101, 65535)
     capas = [capa(*rng.choices(numbers, k=rng.choice((0, 1, 2, 5)))) for _ in range(rng.choice((0, 1, 1, 3)))]
-    receiver = [*capas, *rng.choices([*NO_CAPA, *MESSAGES, *LISTS], k=rng.choice((0, 1, 3)))]
+    receiver = [*capas, *rng.choices([*NO_CAPA, *REFUSED_CAPA, *MESSAGES, *LISTS], k=rng.choice((0, 1, 3)))]
     rng.shuffle(receiver)
     sender = rng.choices([*LISTS, *LISTS, *NO_LIST, *MESSAGES, *OTHERS], k=rng.randrange(1, 60))
     return [b''.join(each) if not each or rng.random() < 0.7 else damaged(rng, each) for each in (receiver, sender)]
@@ -116,8 +121,22 @@ def write():
     (program / 'stdout').write_text(unsupported(*run), encoding='ascii')
 
 
+def listed_by(program, names):
+    """What a program prints, and what it says on standard error."""
+    run = subprocess.run([program, *names], capture_output=True, check=True)
+    return run.stdout.decode('ascii'), run.stderr.decode()
+
+
+def due(receiver, sender, names):
+    """The same of the reference; of a stream that is too long the complaint alone."""
+    for name, stream in zip(names, (receiver, sender)):
+        if len(stream) > LONGEST:
+            return '', 'citp_unsupported: %s: longer than 65536 bytes\n' % name
+    return unsupported(receiver, sender), '' if is_whole(receiver) else UNREAD
+
+
 def compare(program, n):
-    rng, listed = random.Random(6), 0
+    rng, listed, unread = random.Random(6), 0, 0
     pairs = [(receiver, sender) for receiver in RECEIVERS.values() for sender in SENDERS.values()]
     pairs += [*long_pairs(), *(drawn(rng) for _ in range(n))]
     with tempfile.TemporaryDirectory() as folder:
@@ -125,13 +144,14 @@ def compare(program, n):
         for pair in pairs:
             for name, stream in zip(names, pair):
                 name.write_bytes(stream)
-            got = subprocess.run([program, *names], stdout=subprocess.PIPE, stderr=subprocess.DEVNULL, check=True).stdout.decode('ascii')
-            if got != (unsupported(*pair) if max(map(len, pair)) <= LONGEST else ''):
+            got = listed_by(program, names)
+            if got != due(*pair, names):
                 for name, stream in zip(names, pair):
                     pathlib.Path('differs.' + name.name).write_bytes(stream)
                 sys.exit('what is listed differs: differs.receiver, differs.sender')
-            listed += len(re.findall('^offsets=', got, re.M))
-    print('%d pairs of streams by both: alike; %d offsets' % (len(pairs), listed))
+            listed += len(re.findall('^offsets=', got[0], re.M))
+            unread += got[1] == UNREAD
+    print('%d pairs of streams by both: alike; %d offsets; of %d receivers not all can be read' % (len(pairs), listed, unread))
 
 
 if __name__ == '__main__':

@@ -1,7 +1,7 @@
 -- A capability looked for in a list, and which reports are of messages that a receiver does not support.
 use Prim.Native.Nat.{ℕ, _+_, _≤_, _<_}
 use mathlib.Core.Path.{_≡_, refl, sym, ap, _∙_}
-use mathlib.Core.Bool.{Bool, true, false, not, _&&_, _||_, true≢false}
+use mathlib.Core.Bool.{Bool, true, false, not, _&&_, _||_, or-false, true≢false}
 use mathlib.Core.List.{List, []}
 use native.Mathlib.Numerals.{add-one}
 use native.Mathlib.Omega.{arith}
@@ -20,9 +20,6 @@ use Rattle.citp.specs.Says.{messageKind, reportSays}
 use Rattle.citp.proofs.LayerOf.{pinf-layer, fptc-layer, fsel-layer, finf-layer, caex-layer}
 use Rattle.sdmx.specs.declared.Message as sdmx-message
 use Rattle.sdmx.specs.declared.Message.the-variants as sdmx-case
-use Rattle.sdmx.specs.declared.Capa.{Capa}
-use Rattle.sdmx.specs.declared.UNam.{UNam}
-use Rattle.sdmx.specs.declared.ChBk.{ChBk}
 use Rattle.sdmx.specs.declared.ChLs as chls
 use Rattle.sdmx.specs.declared.Sxus as sxus
 use Rattle.pinf.specs.declared.Message as pinf-message
@@ -78,23 +75,13 @@ other-layer lists sources k {l} e d = go (sameKind k ChLs) (sameKind k Sxus) ref
     go false true g h = absurd (not-sdmx Sxus refl h)
     go false false g h = refl
 
-or-false : (b : Bool) → b ≡ (b || false)
-or-false true = refl
-or-false false = refl
-
 module _ (s : Support) where
   module _ (m : sdmx-message.Message) where
-    pub capa-supported : (v : Capa) → m ≡ sdmx-case.Capa v → false ≡ lackedBy s (sdmx.messageKind m)
-    capa-supported v e = rw e refl
-
-    pub unam-supported : (v : UNam) → m ≡ sdmx-case.UNam v → false ≡ lackedBy s (sdmx.messageKind m)
-    unam-supported v e = rw e refl
-
-    pub chbk-supported : (v : ChBk) → m ≡ sdmx-case.ChBk v → false ≡ lackedBy s (sdmx.messageKind m)
-    chbk-supported v e = rw e refl
+    pub sdmx-supported : (x : sdmx-message.Message) → m ≡ x → false ≡ lackedBy s (sdmx.messageKind x) → false ≡ lackedBy s (sdmx.messageKind m)
+    sdmx-supported x e h = rw e h
 
     pub chls-lacked : (v : chls.ChLs) → m ≡ sdmx-case.ChLs v → not (s .«channel_lists») ≡ lackedBy s (sdmx.messageKind m)
-    chls-lacked v e = rw e (or-false (not (s .«channel_lists»)))
+    chls-lacked v e = rw e (sym (or-false (not (s .«channel_lists»))))
 
     pub sxus-lacked : (v : sxus.Sxus) → m ≡ sdmx-case.Sxus v → not (s .«external_sources») ≡ lackedBy s (sdmx.messageKind m)
     sxus-lacked v e = rw e refl
@@ -129,7 +116,7 @@ module _ (s : Support) where
 
 pub ruleset looked = (kit.needs, looking-start, looking-found, looking-on, looking-end)
 
-pub ruleset bodies = (kit.needs, refl, capa-supported, unam-supported, chbk-supported, chls-lacked, sxus-lacked)
+pub ruleset bodies = (kit.needs, refl, sdmx-supported, chls-lacked, sxus-lacked)
 
 pub ruleset layers = (kit.needs, pinf-supported, fptc-supported, fsel-supported, finf-supported, caex-supported, sdmx-lacked)
 

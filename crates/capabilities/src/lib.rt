@@ -22,8 +22,7 @@ struct Support {
     external_sources: bool,
 }
 
-// Whether a capability is one of the list.
-fn names(capabilities: &[u16], capability: u16) -> bool
+fn is_one_of(capabilities: &[u16], capability: u16) -> bool
     ensures { λ r. ⌜ r ≡ isOneOf (now (capabilities .entry)) capability ⌝ }
 {
     let mut i = 0;
@@ -42,8 +41,8 @@ impl Support {
         ensures { λ r. ⌜ r .«external_sources» ≡ isOneOf (now (capabilities .entry)) 3 ⌝ }
     {
         Self {
-            channel_lists: names(capabilities, Capa::CHANNEL_LIST),
-            external_sources: names(capabilities, Capa::PER_UNIVERSE_EXTERNAL_SOURCES),
+            channel_lists: is_one_of(capabilities, Capa::CHANNEL_LIST),
+            external_sources: is_one_of(capabilities, Capa::PER_UNIVERSE_EXTERNAL_SOURCES),
         }
     }
 

@@ -13,31 +13,36 @@ use wire::Copied;
 
 // ---- lines
 
-fn decimal(key: &[u8], n: u64) {
-    io::write_all(STDOUT_FILENO, key);
-    io::print_decimal(STDOUT_FILENO, n);
-    io::write_all(STDOUT_FILENO, b"\n");
+// Whether the line could be written.
+fn decimal(key: &[u8], n: u64) -> bool {
+    io::write_all(STDOUT_FILENO, key)
+        && io::print_decimal(STDOUT_FILENO, n)
+        && io::write_all(STDOUT_FILENO, b"\n")
 }
 
 fn complain(what: &[u8]) {
     io::write_all(STDERR_FILENO, what);
 }
 
-fn show_offsets(offsets: &[usize], count: usize) {
+fn show_offsets(offsets: &[usize], count: usize) -> bool {
     let mut k: usize = 0;
     while k < offsets.len() {
         if count <= k {
-            return;
+            return true;
         }
-        decimal(b"offsets=", offsets[k] as u64);
+        if !decimal(b"offsets=", offsets[k] as u64) {
+            return false;
+        }
         k += 1;
     }
+    true
 }
 
-fn show(answer: Unsupported, offsets: &[usize]) {
-    decimal(b"offsets.count=", answer.count as u64);
-    show_offsets(offsets, answer.count);
-    decimal(b"stop=", answer.stop as u64);
+// Whether all lines could be written.
+fn show(answer: Unsupported, offsets: &[usize]) -> bool {
+    decimal(b"offsets.count=", answer.count as u64)
+        && show_offsets(offsets, answer.count)
+        && decimal(b"stop=", answer.stop as u64)
 }
 
 // ---- the receiver's capabilities
@@ -132,7 +137,7 @@ fn fail(name: &[u8]) {
     os::fail(b": cannot be read");
 }
 
-// The bytes of a file; where there are none, or too many, that is told.
+// How many bytes a file has; that it cannot be read, or is too long, is told.
 fn read_file(name: &[u8], buf: &mut [u8]) -> Input {
     let fd = os::open_read(name);
     if fd < 0 {
@@ -168,7 +173,7 @@ fn read_argument(i: usize, buf: &mut [u8]) -> Input {
 
 // ---- the two streams
 
-// The first numbers, as many as there are.
+// The first numbers, so many, or all where they are fewer.
 fn first_numbers(numbers: &[u16], count: usize) -> &[u16] {
     if numbers.len() < count {
         return numbers;
@@ -176,7 +181,7 @@ fn first_numbers(numbers: &[u16], count: usize) -> &[u16] {
     &numbers[..count]
 }
 
-// The first bytes, as many as were read.
+// The first bytes, so many, or all where they are fewer.
 fn first_bytes(buf: &[u8], count: usize) -> &[u8] {
     if buf.len() < count {
         return buf;
@@ -184,11 +189,11 @@ fn first_bytes(buf: &[u8], count: usize) -> &[u8] {
     &buf[..count]
 }
 
-// Where a Capa may be among what cannot be read of the receiver's stream.
+// A Capa may be among what cannot be read of the receiver's stream.
 fn tell(receiver: Receiver) {
     if !receiver.whole {
         complain(
-            b"citp_unsupported: some of the receiver's packets cannot be read: citp-list lists them\n",
+            b"citp_unsupported: not all of the receiver's stream can be read: citp-list shows where\n",
         );
     }
 }
@@ -199,7 +204,9 @@ fn list(receiver_stream: &[u8], s: &[u8]) {
     let receiver = read_capabilities(receiver_stream, &mut numbers);
     let mut offsets = [0usize; 3276];
     let answer = list_unsupported(first_numbers(&numbers, receiver.count), s, &mut offsets);
-    show(answer, &offsets);
+    if !show(answer, &offsets) {
+        complain(b"citp_unsupported: standard output: cannot be written\n");
+    }
     tell(receiver);
 }
 

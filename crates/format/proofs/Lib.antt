@@ -10,5 +10,6 @@ pub mod Chain
 pub mod Walks
 pub mod Faults
 pub mod Refusal
+pub mod Members
 pub mod Copies
 pub mod Order

@@ -78,7 +78,7 @@ or-right : (a : Bool) {b : Bool} → b ≡ true → (a || b) ≡ true
 or-right true h = refl
 or-right false h = h
 
-each-one-of : (l : List ℕ) → All (λ n. isOneOf l n ≡ true) l
+pub each-one-of : (l : List ℕ) → All (λ n. isOneOf l n ≡ true) l
 unfolding any
 each-one-of [] = tt
 each-one-of (x ∷ l) = (

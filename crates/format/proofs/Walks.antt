@@ -51,6 +51,14 @@ unfolding reports keep
 keep-reports bytes expected tells says h at [] = refl
 keep-reports bytes expected tells says h at (p ∷ ps) = rw (h at p, keep-reports bytes expected tells says h (at + length (bytes p)) ps)
 
+-- what is made of a report by its packet and offset is kept of the reports as of the packets at their offsets
+pub keep-due : {P R M : Type 0} (bytes : P → List ℕ) (expected : ℕ → P → R) (k : R → Option M) (due : ℕ → P → Option M)
+    → ((at : ℕ) (p : P) → k (expected at p) ≡ due at p) → (at : ℕ) (ps : List P)
+    → keep k (reports bytes expected at ps) ≡ keep (λ (o : Option M). o) (reports bytes due at ps)
+unfolding reports keep
+keep-due bytes expected k due h at [] = refl
+keep-due bytes expected k due h at (p ∷ ps) = rw (h at p, keep-due bytes expected k due h (at + length (bytes p)) ps) refl
+
 -- ---- any slice
 
 -- what a step may do at an offset: stop with a number of Last; or report a packet of one byte or more that lies within the slice

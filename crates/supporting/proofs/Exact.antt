@@ -1,30 +1,26 @@
 -- The offsets of unsupported packets rise, and are exactly theirs.
 use Prim.Native.Nat.{ℕ}
-use mathlib.Core.Path.{_≡_, refl, sym, _∙_}
-use mathlib.Core.Bool.{Bool, true, false, not, _&&_, _||_, true≢false, false≢true}
-use mathlib.Core.Logic.{_⊎_, inl, inr}
+use mathlib.Core.Path.{_≡_, refl, sym, ap, _∙_}
+use mathlib.Core.Bool.{Bool, true, false, not, _&&_, true≢false, false≢true}
+use mathlib.Core.Logic.{inl, inr}
 use mathlib.Core.List.{List}
 use mathlib.Core.Option.{none, some}
 use borrow.Author.Tests.{not-true}
 use Rattle.format.specs.Format.{pick}
 use Rattle.format.specs.Refusals.{isOneOf}
 use Rattle.format.specs.View.{View}
-use Rattle.format.proofs.Bools.{both}
+use Rattle.format.proofs.Bools.{both, either}
+use Rattle.format.proofs.Members.{one-of, in-one-of, kept-of, keeps}
 use Rattle.protocol.specs.Kind.{Kind, ChLs, Sxus, sameKind}
 use Rattle.protocol.specs.Step.{Content, message, unknown, fragment, refusal, Report, walk}
 use Rattle.protocol.proofs.Every.{same-kind}
 use Rattle.stream.proofs.Numbers.{ends}
-use Rattle.supporting.specs.Offsets.{isMessageOf, offsetOf, offsetsOf, stopOf, unsupported}
+use Rattle.supporting.specs.Offsets.{isMessageOf, offsetOf, offsetsOf, endNumber, stopOf, unsupported}
 use Rattle.supporting.specs.Claims as claims
-use Rattle.supporting.specs.Claims.{Absent, Unsupported, channel-lists, external-sources, MessageOf, message-of}
-use Rattle.supporting.proofs.Members.{one-of, in-one-of, kept-of, keeps}
+use Rattle.supporting.specs.Claims.{Absent, UnsupportedKind, channel-lists, external-sources, MessageOf, message-of}
 use Rattle.supporting.proofs.Offsets.{rises, packets-rise}
 
 -- ---- kinds
-
-either : (a b : Bool) → (a || b) ≡ true → (a ≡ true) ⊎ (b ≡ true)
-either true b h = inl refl
-either false b h = inr h
 
 module _ (capabilities : List ℕ) where
   absent : (n : ℕ) → not (isOneOf capabilities n) ≡ true → Absent n capabilities
@@ -37,17 +33,17 @@ module _ (capabilities : List ℕ) where
       go true e = absurd (h (one-of capabilities n e))
       go false e = refl
 
-  of-kind : {j k : Kind} → j ≡ k → Unsupported capabilities k → Unsupported capabilities j
+  of-kind : {j k : Kind} → j ≡ k → UnsupportedKind capabilities k → UnsupportedKind capabilities j
   of-kind e u = rw e u
 
-  lacks : (k : Kind) → unsupported capabilities k ≡ true → Unsupported capabilities k
+  lacks : (k : Kind) → unsupported capabilities k ≡ true → UnsupportedKind capabilities k
   lacks k h =
       elim (either (sameKind k ChLs && not (isOneOf capabilities 1)) (sameKind k Sxus && not (isOneOf capabilities 3)) h) [
         | inl a ↦ let b = both (sameKind k ChLs) (not (isOneOf capabilities 1)) a in of-kind (same-kind k ChLs (b .0)) (channel-lists (absent 1 (b .1)))
         | inr a ↦ let b = both (sameKind k Sxus) (not (isOneOf capabilities 3)) a in of-kind (same-kind k Sxus (b .0)) (external-sources (absent 3 (b .1)))
       ]
 
-  lacked : {k : Kind} → Unsupported capabilities k → unsupported capabilities k ≡ true
+  lacked : {k : Kind} → UnsupportedKind capabilities k → unsupported capabilities k ≡ true
   lacked (channel-lists a) = rw (not-there 1 a) refl
   lacked (external-sources a) = rw (not-there 3 a) refl
 
@@ -102,4 +98,5 @@ unsupported-exact capabilities s =
       apart = packets-rise s;
       end = walked .offset;
       stops = rw (walked .ends) refl;
+      whole = λ z. walked .whole (sym (ap endNumber (walked .ends)) ∙ z);
     }

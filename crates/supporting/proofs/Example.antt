@@ -18,7 +18,7 @@ sent =
     ++ (0x43 ∷ 0x49 ∷ 0x54 ∷ 0x50 ∷ 1 ∷ 0 ∷ 0 ∷ 0 ∷ 0x1B ∷ 0 ∷ 0 ∷ 0 ∷ 1 ∷ 0 ∷ 0 ∷ 0 ∷ 0x53 ∷ 0x44 ∷ 0x4D ∷ 0x58 ∷ 0x53 ∷ 0x58 ∷ 0x55 ∷ 0x53 ∷ 3 ∷ 65 ∷ 0 ∷ [])
     ++ (0x43 ∷ 0x49 ∷ 0x54 ∷ 0x50 ∷ 1 ∷ [])
 
--- without capabilities; with channel lists; with external sources, of one universe and of Art-Net; with both; on a list that is too short
+-- without capabilities; with channel lists; with per-universe and Art-Net external sources; with both kinds; on a list that is too short
 pub answered : (answer [] sent (9 ∷ 9 ∷ 9 ∷ []) ≡ (0, 2, 1, 0 ∷ 51 ∷ 9 ∷ []))
     × (answer (2 ∷ 1 ∷ []) sent (9 ∷ 9 ∷ 9 ∷ []) ≡ (0, 1, 1, 51 ∷ 9 ∷ 9 ∷ []))
     × (answer (3 ∷ 101 ∷ []) sent (9 ∷ 9 ∷ 9 ∷ []) ≡ (0, 1, 1, 0 ∷ 9 ∷ 9 ∷ []))

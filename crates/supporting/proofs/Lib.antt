@@ -1,5 +1,4 @@
 pub mod Walking
-pub mod Members
 pub mod Offsets
 pub mod Exact
 pub mod Packets

@@ -9,12 +9,12 @@ use native.Mathlib.Omega.{arith}
 use lib.ListN.{length}
 use Rattle.format.specs.View.{View}
 use Rattle.format.specs.Walk.{Step, stop, report, Walked, follow, walkFrom, keep}
+use Rattle.format.proofs.Members.{keep-all}
 use Rattle.protocol.specs.Kind.{Kind}
 use Rattle.protocol.specs.Step.{Report, stepAt, walk}
 use Rattle.protocol.proofs.Steps.{moved}
 use Rattle.supporting.specs.Offsets.{isMessageOf, offsetOf, offsetsOf, endNumber, stopOf}
 use Rattle.supporting.specs.Claims.{RisingFrom}
-use Rattle.supporting.proofs.Members.{keep-all}
 use Rattle.supporting.proofs.Walking.{walkOn, walk-start, walk-stop, walk-report}
 
 -- ---- from an offset on
@@ -60,7 +60,8 @@ module _ (test : Kind → Bool) (s : List ℕ) where
 
 -- what is kept of the reports is offsets of theirs
 module _ (k : Report View → Option ℕ) (offset-of : (r : Report View) → (k r ≡ none) ⊎ (k r ≡ some (r .offset))) (s : List ℕ) where
-  -- what holds of no offsets, and of those from a packet on where it holds of those from the next one on, be it among them or not
+  -- induction over the walk: P holds of no offsets, and where it holds of those from the next packet on, also of those from this one on,
+  -- with and without its own
   along : (P : ℕ → List ℕ → Type 0) → ((at : ℕ) → P at [])
       → ((at next : ℕ) (xs : List ℕ) → at + 20 ≤ next → next ≤ length s → P next xs → P at xs × P at (at ∷ xs))
       → (f at : ℕ) → P at (keep k (walkFrom stepAt f s at .0))

@@ -1,12 +1,12 @@
 -- Over a list of packets laid end to end, the offsets of unsupported packets are those of its messages of the two kinds.
-use Prim.Native.Nat.{ℕ, _+_}
+use Prim.Native.Nat.{ℕ}
 use mathlib.Core.Path.{_≡_, refl, sym, ap, _∙_}
 use mathlib.Core.Bool.{Bool}
-use mathlib.Core.List.{List, [], _∷_}
-use mathlib.Core.Option.{Option}
-use lib.ListN.{length}
+use mathlib.Core.List.{List}
 use Rattle.format.specs.View.{View}
-use Rattle.format.specs.Walk.{reports, keep}
+use Rattle.format.specs.Walk.{keep}
+use Rattle.format.proofs.Members.{keep-map}
+use Rattle.format.proofs.Walks.{keep-due}
 use Rattle.protocol.specs.Kind.{Kind}
 use Rattle.protocol.specs.Step as reported
 use Rattle.protocol.specs.Step.{Content, Report, lookContent, looked, walk}
@@ -15,15 +15,6 @@ use Rattle.stream.proofs.Walked.{walked}
 use Rattle.supporting.specs.Offsets.{isMessageOf, offsetOf, offsetsOf, stopOf, unsupported}
 use Rattle.supporting.specs.Claims as claims
 use Rattle.supporting.specs.Claims.{offsetDue}
-use Rattle.supporting.proofs.Members.{keep-map}
-
--- what is kept of the reports due is what the packets make at their offsets
-keep-due : {P R M : Type 0} (bytes : P → List ℕ) (expected : ℕ → P → R) (k : R → Option M) (due : ℕ → P → Option M)
-    → ((at : ℕ) (p : P) → k (expected at p) ≡ due at p) → (at : ℕ) (ps : List P)
-    → keep k (reports bytes expected at ps) ≡ keep (λ (o : Option M). o) (reports bytes due at ps)
-unfolding keep reports
-keep-due bytes expected k due h at [] = refl
-keep-due bytes expected k due h at (p ∷ ps) = rw (h at p, keep-due bytes expected k due h (at + length (bytes p)) ps) refl
 
 -- a report's views have no part in its offset
 looked-offset : (test : Kind → Bool) (s : List ℕ) (r : Report View) → offsetOf test (looked s r) ≡ offsetOf test r

@@ -15,7 +15,7 @@ use Rattle.protocol.proofs.Steps.{moved}
 unfoldable pub walkOn : List ℕ → ℕ → Walked (Report View)
 walkOn s at = walkFrom stepAt (suc (length s - at)) s at
 
--- as would any other that does
+-- any fuel that lasts gives the same walk
 same-walk : (s : List ℕ) (f g at : ℕ) → length s - at < f → length s - at < g → walkFrom stepAt f s at ≡ walkFrom stepAt g s at
 unfolding walkFrom
 same-walk s zero g at h k = absurd (not-suc-le-zero h)

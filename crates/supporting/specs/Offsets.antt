@@ -28,7 +28,7 @@ offsetOf test r = pick (isMessageOf test (r .content)) (some (r .offset)) none
 unfoldable pub offsetsOf : (Kind → Bool) → List ℕ → List ℕ
 offsetsOf test s = keep (offsetOf test) (walk s .0)
 
--- the number of a walk's end; none has no end
+-- the number of a walk's end; 0 for none, which no stream gives
 abbrev pub endNumber : Option (ℕ × ℕ) → ℕ
 endNumber none = 0
 endNumber (some e) = e .0

@@ -1,15 +1,17 @@
--- What is one of a list: of numbers by a test; of what is kept of a list, by what it is kept of.
+-- Members of a list of numbers, by a test; and of what `keep` makes of a list, by the elements that it is made of.
 use Prim.Native.Nat.{ℕ}
 use mathlib.Core.Path.{_≡_, refl}
 use mathlib.Core.Bool.{Bool, true, false, _||_, false≢true}
 use mathlib.Core.List.{List, [], _∷_, map}
 use mathlib.Core.Option.{Option, none, some}
-use borrow.Author.Tests.{eqb-true, eq-eqb}
+use borrow.Author.Tests.{eqb-true}
 use lib.Dec.{eqb}
 use Rattle.format.specs.Format.{In, here, there}
 use Rattle.format.specs.Fault.{any}
 use Rattle.format.specs.Refusals.{isOneOf}
 use Rattle.format.specs.Walk.{keep}
+use Rattle.format.proofs.Lists.{all-in}
+use Rattle.format.proofs.Refusal.{each-one-of}
 
 -- ---- numbers
 
@@ -23,14 +25,7 @@ one-of (x ∷ l) n h = go (eqb n x) refl h (one-of l n)
     go false e h more = there (more h)
 
 pub in-one-of : (l : List ℕ) (n : ℕ) → In n l → isOneOf l n ≡ true
-unfolding any
-in-one-of [] n i = elim i [ ]
-in-one-of (x ∷ l) n here = rw (eq-eqb n n refl) refl
-in-one-of (x ∷ l) n (there i) = go (eqb n x) (in-one-of l n i)
-  where
-    go : (b : Bool) → isOneOf l n ≡ true → (b || isOneOf l n) ≡ true
-    go true h = refl
-    go false h = h
+in-one-of l n i = all-in (λ m. isOneOf l m ≡ true) l i (each-one-of l)
 
 -- ---- what is kept
 
