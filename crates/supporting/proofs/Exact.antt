@@ -47,6 +47,9 @@ module _ (capabilities : List ℕ) where
   lacked (channel-lists a) = rw (not-there 1 a) refl
   lacked (external-sources a) = rw (not-there 3 a) refl
 
+pub unsupported-kinds : claims.UnsupportedKinds
+unsupported-kinds capabilities k = (lacks capabilities k, lacked capabilities)
+
 -- ---- reports
 
 -- a message of a kind that passes a test

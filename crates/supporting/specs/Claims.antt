@@ -1,6 +1,7 @@
 -- What is promised of the offsets of unsupported packets. Each claim is proved under its name in the file of proofs/ beside it.
 use Prim.Native.Nat.{ℕ, suc, _/_, _≤_, _<_}
 use mathlib.Core.Path.{_≡_}
+use mathlib.Core.Bool.{true}
 use mathlib.Core.Logic.{_⊎_}
 use mathlib.Core.List.{List, [], _∷_, map}
 use mathlib.Core.Option.{Option, none, some}
@@ -29,6 +30,12 @@ Absent n capabilities = In n capabilities → ⊥
 pub data UnsupportedKind (capabilities : List ℕ) : Kind → Type 0 where
   channel-lists : Absent 1 capabilities → UnsupportedKind capabilities ChLs
   external-sources : Absent 3 capabilities → UnsupportedKind capabilities Sxus
+
+-- unsupported-kinds (Exact): they are those that the definition computes
+abbrev pub UnsupportedKinds : Type 0
+UnsupportedKinds = (capabilities : List ℕ) (k : Kind)
+    → (unsupported capabilities k ≡ true → UnsupportedKind capabilities k)
+    × (UnsupportedKind capabilities k → unsupported capabilities k ≡ true)
 
 -- a message of a kind, whatever it holds
 pub data MessageOf (k : Kind) : Content View → Type 0 where
@@ -80,8 +87,8 @@ UnsupportedPackets = (capabilities : List ℕ) (ps : List Packet) → All Admiss
 
 -- ---- the call
 
--- an answer on a lent list: the count of the offsets and the stop number; a list that is too short is refused with 13 and is as it was; else
--- its first places hold the offsets, and the rest is as it was
+-- an answer on a lent list: the count of the offsets and the stop number; a list that is too short is refused with 13 and is as it was;
+-- else its first places hold the offsets, and the rest is as it was
 pub record Answered (offsets : List ℕ) (stop : ℕ) (out : List ℕ) (r : ℕ × ℕ × ℕ × List ℕ) : Type 0 where
   pub counts : r .1 ≡ length offsets
   pub stops : r .2 ≡ stop
