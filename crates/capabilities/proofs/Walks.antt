@@ -22,8 +22,8 @@ use Rattle.citp.specs.declared.Step.the-variants as step
 use Rattle.supporting.specs.Offsets.{isMessageOf, offsetsOf, stopOf}
 use Rattle.supporting.proofs.Offsets.{offsetsFrom, offsets-start, offsets-stop, offsets-pass, offsets-take, stopFrom, stop-start, stop-report, stop-stop}
 
--- n offsets stand before an offset of the stream; all of them put into the list as it was make what those behind it, put into the list as
--- it is from place n on, make
+-- n offsets stand before `at`: putting all offsets into the list as it was gives the same list as putting those from `at` on into the list
+-- as it is, from place n on
 pub record Walking (test : Kind → Bool) (s : List ℕ) (at n : ℕ) (before after : List ℕ) : Type 0 where
   pub few : n ≤ at
   pub within : at ≤ length s
