@@ -3,6 +3,7 @@
 ghost use mathlib.Core.Path.{_≡_};
 ghost use Prim.Native.Nat.{_≤_};
 ghost use lib.ListN.{length};
+use capabilities::list_unsupported;
 use citp::Cursor;
 use citp::Message;
 use citp::PacketReport;
@@ -38,6 +39,12 @@ const SHOW_NAME: Label = *b"show name, units        ";
 const PEER_NAME: Label = *b"peer name, bytes        ";
 
 const FRAME_NAMES: Label = *b"frame names, bytes      ";
+
+const PLACES: Label = *b"offsets, places         ";
+
+const COUNT: Label = *b"  count                 ";
+
+const OFFSET: Label = *b"  offset                ";
 
 const ROOM: Label = *b"  room                  ";
 
@@ -326,9 +333,55 @@ fn write_edges() {
     packet_edge(FRAME_NAMES, Kind::Fram, 65536, 65564);
 }
 
+// ---- packets that a receiver does not support
+
+// An unknown packet, a ChLs, an unknown packet, an Sxus and a ChLs: 119 bytes, so a list of five places is always long enough.
+const SENT: [u8; 119] = *b"\
+CITP\x01\x00\x00\x00\x14\x00\x00\x00\x01\x00\x00\x00MSEX\
+CITP\x01\x00\x00\x00\x1A\x00\x00\x00\x01\x00\x00\x00SDMXChLs\x00\x00\
+CITP\x01\x00\x00\x00\x14\x00\x00\x00\x01\x00\x00\x00MSEX\
+CITP\x01\x00\x00\x00\x1B\x00\x00\x00\x01\x00\x00\x00SDMXSXUS\x03A\x00\
+CITP\x01\x00\x00\x00\x1A\x00\x00\x00\x01\x00\x00\x00SDMXChLs\x00\x00";
+
+fn show_offsets(offsets: &[usize]) {
+    let mut k = 0;
+    while k < offsets.len() {
+        show(OFFSET, offsets[k] as u64);
+        k += 1;
+    }
+}
+
+// What is answered on a list, and what it holds afterwards.
+fn list_edge(capabilities: &[u16], offsets: &mut [usize]) {
+    let sent = SENT;
+    show(PLACES, offsets.len() as u64);
+    let answer = list_unsupported(capabilities, &sent, offsets);
+    if answer.number != 0 {
+        show(REFUSED, answer.number as u64);
+    }
+    show(COUNT, answer.count as u64);
+    show(STOP, answer.stop as u64);
+    show_offsets(offsets);
+}
+
+fn list_edges() {
+    // Requests, 'Capabilities before channel lists': a list too short is 13 and keeps everything.
+    list_edge(&[], &mut [9; 0]);
+    list_edge(&[], &mut [9; 2]);
+    // Else it keeps its remainder: one that is counted for first, and one that is always long enough.
+    list_edge(&[], &mut [9; 3]);
+    list_edge(&[2, 101], &mut [9; 4]);
+    list_edge(&[], &mut [9; 6]);
+    // ChLs if 1 is absent, Sxus if 3 is absent.
+    list_edge(&[2, 1], &mut [9; 1]);
+    list_edge(&[3, 103], &mut [9; 3]);
+    list_edge(&[3, 1], &mut [9; 0]);
+}
+
 fn main() {
     let mut input = io::large_buffer();
     let n = io::read_full(STDIN_FILENO, &mut input);
     read_edges(&input[..n]);
     write_edges();
+    list_edges();
 }
