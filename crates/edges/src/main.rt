@@ -1,5 +1,6 @@
 // Runs the edges of the scope and of the requests that are not among the proved examples, and those beside them. Standard input has the
-// packets to read, one to a line; what is written stands below. The file stdout has what each must give.
+// packets to read, one to a line; what is written, and the stream whose unsupported packets are listed, stand below. The file stdout has
+// what each must give.
 ghost use mathlib.Core.Path.{_≡_};
 ghost use Prim.Native.Nat.{_≤_};
 ghost use lib.ListN.{length};
