@@ -158,7 +158,8 @@ static void counted_unpatch(const char *row, size_t n, unsigned apart, int held)
     CALLGRIND_ZERO_STATS;
     citp_booked r = citp_book_unpatch(b.count, b.entries, FIXTURES, body, len);
     counted("unpatch", row, column);
-    CHECK(r.number == 0 && r.count == FIXTURES - (!held ? 0 : n < FIXTURES ? n : FIXTURES));
+    size_t dropped = n == 0 ? FIXTURES : !held ? 0 : n < FIXTURES ? n : FIXTURES;
+    CHECK(r.number == 0 && r.count == FIXTURES - dropped);
 }
 
 static void unpatches(const char *row, size_t n) {

@@ -593,7 +593,7 @@ typedef struct {
 
 /* The body of a Ptch: an entry for its fixture, in place of the one that it has. */
 citp_booked citp_book_patch(size_t count, uint64_t *entries, size_t entries_len, const uint8_t *body, size_t body_len);
-/* The body of a UPtc: the entries of the listed identifiers are dropped. */
+/* The body of a UPtc: the entries of the listed identifiers are dropped, and where none is listed, all. */
 citp_booked citp_book_unpatch(size_t count, uint64_t *entries, size_t entries_len, const uint8_t *body,
                               size_t body_len);
 size_t citp_book_entries(size_t count, const uint64_t *entries, size_t entries_len); /* how many it holds */

@@ -714,7 +714,7 @@ pub struct Entry {
 functions! {
     /// The body of a Ptch: an entry for its fixture, in place of the one that it has.
     book_patch(count: usize, entries: &mut [u64], body: &[u8]) -> Booked;
-    /// The body of a UPtc: the entries of the listed identifiers are dropped.
+    /// The body of a UPtc: the entries of the listed identifiers are dropped, and where none is listed, all.
     book_unpatch(count: usize, entries: &mut [u64], body: &[u8]) -> Booked;
     /// how many it holds
     book_entries(count: usize, entries: &[u64]) -> usize;

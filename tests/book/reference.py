@@ -46,8 +46,8 @@ class Book:
         if values.get('kind') == 'Ptch':
             return self.patch(*(int(values[name]) for name in NAMES))
         if values.get('kind') == 'UPtc':
-            for key, value in packet:
-                self.drop(int(value)) if key == 'fixture_identifiers' else None
+            for identifier in [int(value) for key, value in packet if key == 'fixture_identifiers'] or list(self.entries):
+                self.drop(identifier)  # all of them where none is listed
         return 0
 
     def lines(self):

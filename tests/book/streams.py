@@ -30,6 +30,16 @@ def uptc(*identifiers):
     return packet(b'FPTC', b'UPtc', u16s(*identifiers))
 
 
+OLD = [ptch(identifier, 0, 3 * i, 3) for i, identifier in enumerate((1, 2, 3, 40, 50))]  # in the channels of SMALL
+
+CLEARED = [
+    *OLD,
+    uptc(),  # none listed: all are dropped
+    uptc(),  # of an empty book
+    ptch(60, 0, 0, 512),
+    packet(b'FPTC', b'UPtc', u16s() + u16s(1)),  # added bytes list none
+]
+
 SMALL = [
     ptch(1, 0, 0, 4, b'Maker\0Spot\0'),
     ptch(2, 0, 4, 1),
@@ -67,13 +77,14 @@ EDGES = [
 ]
 
 OTHERS = [
-    uptc(),
     uptc(60000, 60001, 60000),  # not held
     packet(b'FPTC', b'Ptch', patch(20, 9, 0, 1, b'A\0\0added')),
     packet(b'FPTC', b'UPtc', u16s(20) + u16s(0, 10)),  # added bytes drop nothing
     packet(b'FPTC', b'Ptch', patch(21, 9, 1, 1)[:-1]),  # 8
     packet(b'FPTC', b'Ptch', patch(21, 9, 1, 1)[:7]),  # 7
     packet(b'FPTC', b'UPtc', u16s(0, 10)[:-1]),  # 7
+    packet(b'FPTC', b'UPtc', u16s()[:-1]),  # 7: it clears nothing
+    packet(b'FPTC', b'SPtc', u16s()),
     packet(b'FPTC', b'Ptch', patch(21, 9, 1, 1, b'x' * 255 + b'\0\0')),
     packet(b'FPTC', b'Ptch', patch(22, 9, 2, 1, b'x' * 256 + b'\0\0')),  # 19
     packet(b'FPTC', b'Ptch', patch(22, 9, 2, 1, b'\0' + b'x' * 256 + b'\0')),  # 19
@@ -104,6 +115,8 @@ STREAMS = {
     'empty': b'',
     'small': b''.join(SMALL),
     'cut': b''.join(SMALL)[:-1],
+    'cleared': b''.join([*CLEARED, *SMALL]),
+    'emptied': b''.join([*SMALL, uptc()]),
 }
 
 OF_LISTING = ('kinds', 'limits', 'end_4_small')  # streams of tests/listing
@@ -129,7 +142,7 @@ def mixed(rng):
             count = rng.randrange(1, most + 1) if rng.random() < 0.97 else rng.choice((0, 512, 513, 65535))
             yield ptch(rng.randrange(identifiers), rng.choice(universes), channel, count)
         elif kind < 0.9:
-            yield uptc(*(rng.randrange(identifiers) for _ in range(rng.choice((0, 1, 1, 2, 5, 50)))))
+            yield uptc(*(rng.randrange(identifiers) for _ in range(rng.choice((1, 1, 2, 5, 50)))))
         else:
             yield rng.choice(OTHERS)
 
@@ -144,7 +157,7 @@ def filled(rng):
         if rng.random() < 0.9:
             yield ptch(rng.choice(identifiers), *rng.choice(channels), rng.choice((1, 1, 1, 2, 0)))
         else:
-            yield uptc(*rng.sample(identifiers, rng.choice((0, 1, 2, 9, 100))))
+            yield uptc(*rng.sample(identifiers, rng.choice((1, 2, 9, 100))))
 
 
 def full_book(rng):
@@ -176,13 +189,20 @@ def full_universes(rng):
         ), (60, 37, 3))[0]
 
 
+def some_cleared(rng, messages):
+    """Of three lists of messages about one is cleared, once or twice on its way."""
+    for _ in range(rng.choice((0, 0, 0, 0, 1, 2))):
+        messages.insert(rng.randrange(len(messages) + 1), uptc())
+    return messages
+
+
 def write():
     for name, stream in STREAMS.items():
         pathlib.Path(name + '.in').write_bytes(stream)
     for name, stream in [*STREAMS.items(), *((name, LISTED[name]) for name in OF_LISTING)]:
         pathlib.Path(name + '.out').write_text(book_listing(stream), encoding='ascii')
     program = pathlib.Path('../../crates/citp_book')
-    some = b''.join([*SMALL, *UNPATCHED, *EDGES, *OTHERS])
+    some = b''.join([*CLEARED, *SMALL, *UNPATCHED, *EDGES, *OTHERS])
     every = some + b''.join(full(len(fed(some)[0].entries)))
     (program / 'stdin').write_bytes(every)
     (program / 'stdout').write_text(book_listing(every), encoding='ascii')
@@ -197,10 +217,11 @@ def compare(program, n):
         refused.update(re.findall(r'^refusal=(\d+)$', book, re.M))
         ends.update(set(re.findall(r'^(first_free=none|entries=256)$', book, re.M)))
         return book
-    some = [list(rng.choice((mixed, filled, full_book, full_universes))(rng)) for _ in range(n)]
+    some = [some_cleared(rng, list(rng.choice((mixed, filled, full_book, full_universes))(rng))) for _ in range(n)]
     compare_all(program, [*long_streams(), *(b''.join(each) if rng.random() < 0.7 else damaged(rng, each) for each in some)], expected)
     print('of their messages %s' % ', '.join('%d are refused with %s' % (refused[number], number) for number in sorted(refused)))
-    print('of the streams %d end with a full universe, %d with a full book' % (ends['first_free=none'], ends['entries=256']))
+    print('of the streams %d are cleared, %d end with a full universe, %d with a full book'
+          % (sum(uptc() in each for each in some), ends['first_free=none'], ends['entries=256']))
 
 
 def compare_rig():

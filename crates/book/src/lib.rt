@@ -371,7 +371,7 @@ impl Book {
         }
     }
 
-    // The body of a UPtc: the fixtures listed are dropped.
+    // The body of a UPtc: the fixtures listed are dropped, and where none is listed, all.
     pub fn unpatch(self, entries: &mut [u64], body: &[u8]) -> Booked
         ensures { λ r. ⌜ (r .number, r .book .count, now (entries .exit))
             ≡ answer (change (uptc (now (body .entry)))) (self .count) (now (entries .entry)) ⌝ }

@@ -16,7 +16,9 @@ patches i u c low high = ptch (i ∷ 0 ∷ u ∷ 0 ∷ c ∷ 0 ∷ low ∷ high 
 
 abbrev pub messages : List Message
 messages =
-    patches 1 0 0 2 0  -- fixture 1 on channels 0 and 1
+    patches 9 0 1 1 0  -- fixture 9 on channel 1
+    ∷ uptc (0 ∷ 0 ∷ [])  -- none is named: the book is emptied
+    ∷ patches 1 0 0 2 0  -- fixture 1 on channels 0 and 1
     ∷ patches 2 0 1 1 0  -- 17: channel 1 is held
     ∷ patches 2 0 0 1 2  -- 16: 513 channels, of which two are held
     ∷ patches 1 0 1 2 0  -- fixture 1 moves on to channels 1 and 2
@@ -25,7 +27,6 @@ messages =
     ∷ patches 3 1 0 1 0  -- 18: two fixtures are held
     ∷ ptch (3 ∷ [])  -- 7: the body is cut
     ∷ uptc (2 ∷ 0 ∷ 9 ∷ 0 ∷ 1 ∷ 0 ∷ [])  -- fixture 9 is not held, fixture 1 is dropped
-    ∷ uptc (0 ∷ 0 ∷ [])  -- none is named
     ∷ patches 3 1 0 1 0
     ∷ []
 
@@ -34,7 +35,7 @@ unfoldable pub numbers : List Message → ℕ → List Entry → List ℕ
 numbers [] count ws = []
 numbers (m ∷ ms) count ws = answer (change m) count ws .0 ∷ numbers ms (answer (change m) count ws .1) (answer (change m) count ws .2)
 
-pub numbers-given : numbers messages 0 (7 ∷ 7 ∷ []) ≡ 0 ∷ 17 ∷ 16 ∷ 0 ∷ 0 ∷ 17 ∷ 18 ∷ 7 ∷ 0 ∷ 0 ∷ 0 ∷ []
+pub numbers-given : numbers messages 0 (7 ∷ 7 ∷ []) ≡ 0 ∷ 0 ∷ 0 ∷ 17 ∷ 16 ∷ 0 ∷ 0 ∷ 17 ∷ 18 ∷ 7 ∷ 0 ∷ 0 ∷ []
 unfolding numbers decode decodeNumber decodeItems decodeCString any filter insert identifier universe channel channelCount
 numbers-given = refl
 

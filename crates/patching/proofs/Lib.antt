@@ -4,6 +4,7 @@ pub mod Fields
 pub mod Lists
 pub mod Loops
 pub mod Entries
+pub mod Unpatched
 pub mod Theorem
 pub mod Numbers
 pub mod Example

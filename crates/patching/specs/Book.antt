@@ -1,6 +1,6 @@
 -- The patch book: what each message does to its entries, and what is asked of them.
 use Prim.Native.Nat.{ℕ, zero, suc, min}
-use mathlib.Core.Bool.{Bool, not, _&&_, _||_}
+use mathlib.Core.Bool.{Bool, true, not, _&&_, _||_}
 use mathlib.Core.List.{List, [], _∷_, _++_, map}
 use mathlib.Core.Option.{Option, none, some}
 use lib.ListN.{length, take, drop, getElem?}
@@ -53,9 +53,10 @@ change (uptc s) = asUnpatch (decode (bodyOf UPtc) s)
 abbrev pub among : List ℕ → ℕ → Bool
 among ids i = any (λ (j : ℕ). eqb j i) ids
 
--- a UPtc with these identifiers drops a fixture
+-- a UPtc with these identifiers drops a fixture: one that they name; where there are none, every one
 abbrev pub drops : List ℕ → Key → Bool
-drops ids k = among ids k
+drops [] k = true
+drops (i ∷ ids) k = among (i ∷ ids) k
 
 -- the entries of fixtures that they do not drop
 abbrev pub without : List ℕ → List Entry → List Entry

@@ -1,4 +1,4 @@
-// An unpatch: the entries of the identifiers that it lists are dropped from the words lent.
+// An unpatch: the entries of the identifiers that it lists are dropped from the words lent, and all of them where it lists none.
 ghost use mathlib.Core.Path.{_≡_};
 ghost use mathlib.Core.List.{[], _∷_};
 ghost use Prim.Native.Nat.{_+_, _*_, _<_, _≤_};
@@ -80,8 +80,9 @@ fn is_listed(identifiers: &[u8], identifier: u64) -> bool
     false
 }
 
-// Drops the entries of the identifiers listed, the list read for each entry.
+// Drops the entries of the identifiers listed, one or more, the list read for each entry.
 fn drop_one_by_one(entries: &mut [u64], identifiers: &[u8]) -> usize
+    requires { ⌜ 2 ≤ length (now identifiers) ⌝ }
     ensures { λ r. ⌜ Dropped (identifiersOf (now (identifiers .entry))) (now (entries .entry)) r (now (entries .exit)) ⌝ }
 {
     let mut kept = 0;
@@ -204,9 +205,9 @@ fn find_listed(entries: &[u64], identifiers: &[u8]) -> [u64; 4]
     found
 }
 
-// Drops the entries, at most 256, of the identifiers listed, the list read once for each range that has an entry.
+// Drops the entries, at most 256, of the identifiers listed, one or more, the list read once for each range that has an entry.
 fn drop_by_ranges(entries: &mut [u64], identifiers: &[u8]) -> usize
-    requires { ⌜ length (now entries) ≤ 256 ⌝ }
+    requires { ⌜ (length (now entries) ≤ 256) × (2 ≤ length (now identifiers)) ⌝ }
     ensures { λ r. ⌜ Dropped (identifiersOf (now (identifiers .entry))) (now (entries .entry)) r (now (entries .exit)) ⌝ }
 {
     let found = find_listed(entries, identifiers);
@@ -225,11 +226,14 @@ fn drop_by_ranges(entries: &mut [u64], identifiers: &[u8]) -> usize
     kept
 }
 
-// Drops the entries of the identifiers listed, two bytes each, the low one first; how many entries there are then.
+// Drops the entries of the identifiers listed, two bytes each, the low one first, or all where none is; how many entries there are then.
 pub fn drop_listed(entries: &mut [u64], identifiers: &[u8]) -> usize
     ensures { λ r. ⌜ Dropped (identifiersOf (now (identifiers .entry))) (now (entries .entry)) r (now (entries .exit)) ⌝ }
 {
     let n = identifiers.len() / 2;
+    if n == 0 {
+        return 0;
+    }
     if n == 1 {
         return drop_one(entries, listed_at(identifiers, 0));
     }

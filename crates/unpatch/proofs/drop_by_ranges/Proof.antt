@@ -5,7 +5,7 @@ use lib.ListN.{length}
 use Rattle.unpatch.specs.Unpatch.{identifiersOf}
 use Rattle.unpatch.proofs.Marks.{word-count}
 use Rattle.unpatch.proofs.Found.{found-listed}
-use Rattle.unpatch.proofs.Passes.{Dropping, from, unmoved, drop-next, keep-one, dropped}
+use Rattle.unpatch.proofs.Passes.{some-listed, Dropping, from, unmoved, drop-next, keep-one, dropped}
 use Rattle.unpatch.proofs.drop_by_ranges.Statement.{statement}
 use Rattle.unpatch.proofs.drop_by_ranges.Tie as tie
 
@@ -19,7 +19,7 @@ find-listed-requires : tie.Need-find-listed-requires Inv-loop μ-loop
 find-listed-requires c κs = omega arith
 
 loop-holds : tie.Need-loop-holds Inv-loop μ-loop
-loop-holds c = from (omega arith, refl)
+loop-holds c = from (some-listed (c .before .before .before .before .args .identifiers .now) (omega arith)) (omega arith, refl)
 
 mul-x : tie.Need-mul-x Inv-loop μ-loop
 mul-x c = omega arith

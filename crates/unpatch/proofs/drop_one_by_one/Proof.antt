@@ -3,7 +3,7 @@ use mathlib.Core.Path.{refl, sym, _∙_}
 use native.Mathlib.Omega.{arith}
 use lib.ListN.{length}
 use Rattle.unpatch.specs.Unpatch.{identifiersOf}
-use Rattle.unpatch.proofs.Passes.{Dropping, from, drop-next, keep-one, dropped}
+use Rattle.unpatch.proofs.Passes.{some-listed, Dropping, from, drop-next, keep-one, dropped}
 use Rattle.unpatch.proofs.drop_one_by_one.Statement.{statement}
 use Rattle.unpatch.proofs.drop_one_by_one.Tie as tie
 
@@ -14,7 +14,7 @@ abbrev μ-loop : tie.MeasureT-loop
 μ-loop entries₀ identifiers kept₀ i₀ entries kept i = length entries₀ - i
 
 loop-holds : tie.Need-loop-holds Inv-loop μ-loop
-loop-holds c = from (omega arith, refl)
+loop-holds c = from (some-listed (c .before .before .args .identifiers .now) (omega arith)) (omega arith, refl)
 
 mul-x : tie.Need-mul-x Inv-loop μ-loop
 mul-x c = omega arith
