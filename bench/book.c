@@ -177,6 +177,9 @@ int main(void) {
     questions();
     unpatches("no identifier", 0);
     unpatches("one identifier", 1);
+    unpatches("two identifiers", 2);
+    unpatches("eight identifiers", 8);
+    unpatches("nine identifiers", 9);
     unpatches("64 identifiers", 64);
     unpatches("65,535 identifiers", MOST);
     return 0;

@@ -290,13 +290,15 @@ static void book(void) {
     is_booked(unpatched(2, 0x0102), 0, 1);
     is_booked(patched(1, 9, 0, 512), 0, 1);
     CHECK(citp_book_taken(1, entries, 2, 3) == 512 && citp_book_first_free(1, entries, 2, 3) == 512);
-    /* an empty list with bytes added, of any book, and cut in its count */
+    /* an empty list: cut in its count; whole; with bytes added, on a count above the words lent */
     static const uint8_t clearing[] = {0, 0, 9, 0};
     const uint64_t words[] = {entries[0], entries[1]};
     is_booked(citp_book_unpatch(1, entries, 2, clearing, 1), 7, 1);
     is_booked(citp_book_unpatch(1, entries, 2, clearing, 2), 0, 0);
     is_booked(citp_book_unpatch(99, entries, 2, clearing, sizeof clearing), 0, 0);
-    CHECK(memcmp(words, entries, sizeof words) == 0 && citp_book_taken(0, entries, 2, 3) == 0);
+    CHECK(memcmp(words, entries, sizeof words) == 0);
+    /* the words still hold a fixture's 512 channels, and none is taken */
+    is_booked(patched(0, 10, 0, 512), 0, 1);
 }
 
 /* ---- strings past their limit, where no packet's walk comes first: a book's message, lists that are stepped through */

@@ -1,5 +1,5 @@
 #!/usr/bin/env python3
-"""reference.py < STREAM: the patch book of a stream, written from the request for the book and not from the program.
+"""reference.py < STREAM: the patch book of a stream, written from the requests for the book and not from the program.
 
 The packets and their fields are those of the second lister; the expected listings of this folder are its output (`streams.py write`).
 """
@@ -42,12 +42,13 @@ class Book:
 
     def feed(self, packet):
         """The number of a packet of a listing; 0 too where it is no patch message."""
-        values = dict(packet)
+        values = dict(reversed(packet))  # a PLoc has a field `kind` too
         if values.get('kind') == 'Ptch':
             return self.patch(*(int(values[name]) for name in NAMES))
         if values.get('kind') == 'UPtc':
-            for identifier in [int(value) for key, value in packet if key == 'fixture_identifiers'] or list(self.entries):
-                self.drop(identifier)  # all of them where none is listed
+            listed = [int(value) for key, value in packet if key == 'fixture_identifiers']
+            for identifier in listed or list(self.entries):  # none listed: all
+                self.drop(identifier)
         return 0
 
     def lines(self):

@@ -26,18 +26,18 @@ def ptch(*fields, **header):
     return packet(b'FPTC', b'Ptch', patch(*fields), **header)
 
 
-def uptc(*identifiers):
-    return packet(b'FPTC', b'UPtc', u16s(*identifiers))
+def uptc(*identifiers, **header):
+    return packet(b'FPTC', b'UPtc', u16s(*identifiers), **header)
 
 
-OLD = [ptch(identifier, 0, 3 * i, 3) for i, identifier in enumerate((1, 2, 3, 40, 50))]  # in the channels of SMALL
+OLD = [ptch(identifier, 0, 3 * i, 3) for i, identifier in enumerate((1, 2, 3, 40, 50))]  # on the channels that SMALL takes, and behind
 
 CLEARED = [
     *OLD,
     uptc(),  # none listed: all are dropped
     uptc(),  # of an empty book
     ptch(60, 0, 0, 512),
-    packet(b'FPTC', b'UPtc', u16s() + u16s(1)),  # added bytes list none
+    packet(b'FPTC', b'UPtc', u16s() + u16s(60)),  # the added bytes are no list
 ]
 
 SMALL = [
@@ -91,9 +91,12 @@ OTHERS = [
     packet(b'FPTC', b'', b'Ptch'),  # 6
     packet(b'FPTC', b'SPtc', u16s(0, 10)),
     packet(b'SDMX', b'Ptch', patch(21, 9, 1, 1)),  # unknown
+    packet(b'SDMX', b'UPtc', u16s()),
     packet(b'MSEX', b'Ptch', patch(21, 9, 1, 1)),
     ptch(21, 9, 1, 1, count=2),  # fragments
     ptch(21, 9, 1, 1, count=2, part=1),
+    uptc(count=2),
+    packet(b'PINF', b'PLoc', b'\0\0UPtc\0Ptch\0\0'),
 ]
 
 
@@ -190,7 +193,7 @@ def full_universes(rng):
 
 
 def some_cleared(rng, messages):
-    """Of three lists of messages about one is cleared, once or twice on its way."""
+    """The messages; of three lists about one gets one or two clearing messages."""
     for _ in range(rng.choice((0, 0, 0, 0, 1, 2))):
         messages.insert(rng.randrange(len(messages) + 1), uptc())
     return messages
@@ -220,7 +223,7 @@ def compare(program, n):
     some = [some_cleared(rng, list(rng.choice((mixed, filled, full_book, full_universes))(rng))) for _ in range(n)]
     compare_all(program, [*long_streams(), *(b''.join(each) if rng.random() < 0.7 else damaged(rng, each) for each in some)], expected)
     print('of their messages %s' % ', '.join('%d are refused with %s' % (refused[number], number) for number in sorted(refused)))
-    print('of the streams %d are cleared, %d end with a full universe, %d with a full book'
+    print('%d of the random streams were given a clearing message; of all %d end with a full universe, %d with a full book'
           % (sum(uptc() in each for each in some), ends['first_free=none'], ends['entries=256']))
 
 

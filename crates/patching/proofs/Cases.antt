@@ -5,8 +5,8 @@ use mathlib.Core.Bool.{Bool, true, false, not, _&&_, _||_, and-comm}
 use mathlib.Core.Logic.{_⊎_, inl, inr}
 use native.Mathlib.Omega.{arith}
 use native.Mathlib.Nat.{lt-of-not-le, le-of-suc-le-suc}
-use lib.Dec.{ltb, leb}
-use borrow.Author.Tests.{ltb-true, ltb-false, lt-ltb, le-ltb, le-leb, lt-leb}
+use lib.Dec.{ltb, leb, eqb}
+use borrow.Author.Tests.{ltb-true, ltb-false, lt-ltb, le-ltb, le-leb, lt-leb, eq-eqb, ne-eqb, eqb-true, eqb-false}
 use Rattle.patching.specs.Bits.{many}
 use Rattle.patching.proofs.Digits.{many-ext, many-less, many-below}
 
@@ -16,6 +16,13 @@ same-test a b c d f g = go (ltb a b) refl
     go : (t : Bool) → ltb a b ≡ t → ltb a b ≡ ltb c d
     go true e = e ∙ sym (lt-ltb c d (f (ltb-true a b e)))
     go false e = e ∙ sym (le-ltb c d (le-of-suc-le-suc (lt-of-not-le (λ h. let l : a < b = g h in let k : b ≤ a = ltb-false a b e in omega arith))))
+
+pub eqb-comm : (a b : ℕ) → eqb a b ≡ eqb b a
+eqb-comm a b = go (eqb a b) refl
+  where
+    go : (t : Bool) → eqb a b ≡ t → eqb a b ≡ eqb b a
+    go true e = e ∙ sym (eq-eqb b a (sym (eqb-true a b e)))
+    go false e = e ∙ sym (ne-eqb b a (λ q. eqb-false a b e (sym q)))
 
 not-ltb : (a b : ℕ) → not (ltb a b) ≡ leb b a
 not-ltb a b = go (ltb a b) refl

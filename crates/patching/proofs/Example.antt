@@ -1,4 +1,4 @@
--- One run of a book with room for two fixtures, by computation: the claims are not empty, and 16 is tested before 17 before 18.
+-- One run of a book with room for two fixtures, by computation: the claims are not empty, an empty UPtc clears, 16 is tested before 17 before 18.
 use Prim.Native.Nat.{ℕ}
 use mathlib.Core.Path.{_≡_, refl}
 use mathlib.Core.List.{List, [], _∷_, map}

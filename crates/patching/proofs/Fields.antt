@@ -4,10 +4,10 @@ use mathlib.Core.Path.{_≡_, refl, sym, ap, ap₂, _∙_}
 use mathlib.Core.Bool.{Bool, true, false, _&&_, _||_}
 use native.Mathlib.Omega.{arith}
 use lib.Dec.{ltb, eqb}
-use borrow.Author.Tests.{lt-ltb, le-ltb, eq-eqb, ne-eqb, ltb-true, ltb-false, eqb-true, eqb-false}
+use borrow.Author.Tests.{lt-ltb, le-ltb, ltb-true, ltb-false, eqb-true, eqb-false}
 use Rattle.patching.specs.Entry.{Entry, universe, channel, channelCount, identifier, Fields, fields, entryOf, end, shares, before}
 use Rattle.patching.specs.Book.{misfits}
-use Rattle.patching.proofs.Cases.{same-test}
+use Rattle.patching.proofs.Cases.{same-test, eqb-comm}
 
 -- an entry's number is that of its fields
 pub entry-whole : (e : Entry) → entryOf (fields e) ≡ e
@@ -120,14 +120,7 @@ pub shares-comm : (e x : Entry) → shares x e ≡ shares e x
 shares-comm e x =
     let a : max (channel x) (channel e) ≡ max (channel e) (channel x) = omega arith in
     let b : min (end x) (end e) ≡ min (end e) (end x) = omega arith in
-    ap₂ (λ (s t : Bool). s && t) (eq-comm (universe x) (universe e)) (ap₂ ltb a b)
-  where
-    eq-comm : (a b : ℕ) → eqb a b ≡ eqb b a
-    eq-comm a b = go (eqb a b) refl
-      where
-        go : (t : Bool) → eqb a b ≡ t → eqb a b ≡ eqb b a
-        go true e = e ∙ sym (eq-eqb b a (sym (eqb-true a b e)))
-        go false e = e ∙ sym (ne-eqb b a (λ q. eqb-false a b e (sym q)))
+    ap₂ (λ (s t : Bool). s && t) (eqb-comm (universe x) (universe e)) (ap₂ ltb a b)
 
 -- ---- a misfit, by its two tests
 

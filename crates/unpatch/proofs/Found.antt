@@ -12,12 +12,13 @@ use Rattle.format.specs.Fault.{any}
 use Rattle.format.proofs.Bools.{neither}
 use Rattle.patching.specs.Bits.{packs}
 use Rattle.patching.specs.Entry.{Entry, identifier}
-use Rattle.patching.specs.Book.{among}
+use Rattle.patching.specs.Book.{among, drops}
 use Rattle.patching.proofs.Cases.{same-test}
 use Rattle.patching.proofs.Digits.{packs-ext-in}
 use Rattle.patching.proofs.Fields.{narrow}
-use Rattle.unpatch.specs.Unpatch.{hasBit, withBit, within, liesIn, Offset, marks, found, foundBelow}
+use Rattle.unpatch.specs.Unpatch.{identifiersOf, hasBit, withBit, within, liesIn, Offset, marks, found, foundBelow}
 use Rattle.unpatch.proofs.Marks.{has-bit, with-bit, no-bits}
+use Rattle.unpatch.proofs.Listed.{by-name}
 use Rattle.unpatch.proofs.Ranges.{inside, outside, below-end, marked}
 
 module _ (ids : List ℕ) (xs : List Entry) where
@@ -29,13 +30,18 @@ module _ (ids : List ℕ) (xs : List Entry) where
       go j k = ap (λ (t : Bool). ltb j (length xs) && (t && among ids k)) (le-ltb k 0 (omega arith)) ∙ and-false (ltb j (length xs))
 
   -- behind the last
-  pub found-listed : (i : ℕ) {ws : List ℕ} → ws ≡ foundBelow 65664 ids xs → i < length xs → length xs ≤ 256
+  found-listed : (i : ℕ) {ws : List ℕ} → ws ≡ foundBelow 65664 ids xs → i < length xs → length xs ≤ 256
       → hasBit ws i ≡ among ids (identifier (getD xs i 0))
   found-listed i e h short =
       let k : ℕ = identifier (getD xs i 0) in
       ap (λ (l : List ℕ). hasBit l i) e
       ∙ has-bit (found 65664 ids xs) 4 i (omega arith)
       ∙ ap₂ (λ (a b : Bool). a && (b && among ids k)) (lt-ltb i (length xs) h) (lt-ltb k 65664 (omega (arith, narrow (getD xs i 0))))
+
+-- where an identifier is listed, these are the entries that are dropped
+pub found-dropped : (s : List ℕ) (xs : List Entry) (i : ℕ) {ws : List ℕ} → 2 ≤ length s → ws ≡ foundBelow 65664 (identifiersOf s) xs
+    → i < length xs → length xs ≤ 256 → hasBit ws i ≡ drops (identifiersOf s) (identifier (getD xs i 0))
+found-dropped s xs i some e h short = found-listed (identifiersOf s) xs i e h short ∙ sym (by-name s (omega arith) (identifier (getD xs i 0)))
 
 module _ (base : ℕ) (ids : List ℕ) (xs : List Entry) where
   abbrev k : ℕ → ℕ

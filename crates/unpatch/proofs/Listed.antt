@@ -6,12 +6,12 @@ use mathlib.Core.List.{List, [], _∷_, _++_}
 use native.Mathlib.Omega.{arith}
 use native.Mathlib.Nat.{zero-add, suc-add}
 use lib.ListN.{length, getD, drop}
-use lib.Dec.{eqb}
+use lib.Dec.{eqb, eqb·suc-zero}
 use borrow.Author.Tests.{eq-eqb, ne-eqb}
 use Rattle.format.specs.Fault.{any}
 use Rattle.format.specs.View.{unitsOf}
 use Rattle.unpatch.specs.Unpatch.{identifiersOf, listedAt}
-use Rattle.patching.specs.Book.{among}
+use Rattle.patching.specs.Book.{among, drops}
 
 -- ---- an identifier in a list
 
@@ -58,6 +58,27 @@ first-unit (b ∷ c ∷ s) (suc n) h =
 pub one-listed : (s : List ℕ) → length s / 2 ≡ 1 → identifiersOf s ≡ listedAt s 0 ∷ []
 one-listed s e = ap (λ (n : ℕ). unitsOf n s) e ∙ first-unit s 0 (omega arith)
 
+-- where an identifier is listed, a fixture is dropped by name alone; where none is, every one
+pub by-name : (s : List ℕ) → 1 ≤ length s / 2 → (k : ℕ) → drops (identifiersOf s) k ≡ among (identifiersOf s) k
+unfolding unitsOf
+by-name [] h k = absurd (omega arith)
+by-name (b ∷ []) h k = absurd (omega arith)
+by-name (b ∷ c ∷ s) h k =
+    let e : length (b ∷ c ∷ s) / 2 ≡ suc (length s / 2) = omega arith in
+    rw e refl
+
+by-clearing : (s : List ℕ) → length s / 2 ≡ 0 → (k : ℕ) → drops (identifiersOf s) k ≡ true
+unfolding unitsOf
+by-clearing s e k = ap (λ (n : ℕ). drops (unitsOf n s) k) e
+
+-- a fixture that is not listed is dropped if none is
+pub not-there : (s : List ℕ) (k : ℕ) → among (identifiersOf s) k ≡ false → eqb (length s / 2) 0 ≡ drops (identifiersOf s) k
+not-there s k e = go (length s / 2) refl
+  where
+    go : (n : ℕ) → length s / 2 ≡ n → eqb n 0 ≡ drops (identifiersOf s) k
+    go zero q = sym (by-clearing s q k)
+    go (suc n) q = eqb·suc-zero n ∙ sym (by-name s (omega arith) k ∙ e)
+
 module _ (s : List ℕ) (i : ℕ) (h : i < length s / 2) (k : ℕ) where
   -- the first identifiers, and one more
   pub among-next : among (unitsOf (i + 1) s) k ≡ (among (unitsOf i s) k || eqb (listedAt s i) k)
@@ -69,11 +90,12 @@ module _ (s : List ℕ) (i : ℕ) (h : i < length s / 2) (k : ℕ) where
   pub not-yet : among (unitsOf i s) k ≡ false → (listedAt s i ≡ k → ⊥) → among (unitsOf (i + 1) s) k ≡ false
   not-yet e n = among-next ∙ ap (λ (b : Bool). b || eqb (listedAt s i) k) e ∙ ne-eqb (listedAt s i) k n
 
-  pub found-there : listedAt s i ≡ k → among (identifiersOf s) k ≡ true
+  pub found-there : listedAt s i ≡ k → drops (identifiersOf s) k ≡ true
   found-there e =
       let m : ℕ = length s / 2 - (i + 1) in
       let n : length s / 2 ≡ (i + 1) + m = omega arith in
-      ap (λ (t : ℕ). among (unitsOf t s) k) n
+      by-name s (omega arith) k
+      ∙ ap (λ (t : ℕ). among (unitsOf t s) k) n
       ∙ ap (λ (l : List ℕ). among l k) (units-add (i + 1) m s (omega arith))
       ∙ among-append (unitsOf (i + 1) s) (unitsOf m (drop (2 * (i + 1)) s)) k
       ∙ ap (λ (b : Bool). b || among (unitsOf m (drop (2 * (i + 1)) s)) k)

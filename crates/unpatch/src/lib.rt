@@ -5,7 +5,7 @@ ghost use Prim.Native.Nat.{_+_, _*_, _<_, _≤_};
 ghost use lib.ListN.{length};
 ghost use Rattle.format.specs.Fault.{any};
 ghost use Rattle.unpatch.specs.Unpatch.{identifiersOf, listedAt, Stay, Dropped, hasBit, withBit, liesIn, Offset, marks, foundBelow};
-ghost use Rattle.patching.specs.Book.{among};
+ghost use Rattle.patching.specs.Book.{drops};
 use entries::identifier;
 
 // How many identifiers a range has; three ranges have them all.
@@ -65,9 +65,9 @@ fn drop_one(entries: &mut [u64], dropped: u64) -> usize
     kept
 }
 
-// An identifier is listed.
-fn is_listed(identifiers: &[u8], identifier: u64) -> bool
-    ensures { λ r. ⌜ r ≡ among (identifiersOf (now (identifiers .entry))) identifier ⌝ }
+// A fixture is dropped: its identifier is listed, or none is.
+fn is_dropped(identifiers: &[u8], identifier: u64) -> bool
+    ensures { λ r. ⌜ r ≡ drops (identifiersOf (now (identifiers .entry))) identifier ⌝ }
 {
     let n = identifiers.len() / 2;
     let mut i = 0;
@@ -77,12 +77,11 @@ fn is_listed(identifiers: &[u8], identifier: u64) -> bool
         }
         i += 1;
     }
-    false
+    n == 0
 }
 
-// Drops the entries of the identifiers listed, one or more, the list read for each entry.
+// Drops the entries of the identifiers listed, or all where none is, the list read for each entry.
 fn drop_one_by_one(entries: &mut [u64], identifiers: &[u8]) -> usize
-    requires { ⌜ 2 ≤ length (now identifiers) ⌝ }
     ensures { λ r. ⌜ Dropped (identifiersOf (now (identifiers .entry))) (now (entries .entry)) r (now (entries .exit)) ⌝ }
 {
     let mut kept = 0;
@@ -90,7 +89,7 @@ fn drop_one_by_one(entries: &mut [u64], identifiers: &[u8]) -> usize
     while i < entries.len() {
         let x = entries[i];
         i += 1;
-        if is_listed(identifiers, identifier(x)) {
+        if is_dropped(identifiers, identifier(x)) {
             continue;
         }
         entries[kept] = x;
@@ -226,14 +225,11 @@ fn drop_by_ranges(entries: &mut [u64], identifiers: &[u8]) -> usize
     kept
 }
 
-// Drops the entries of the identifiers listed, two bytes each, the low one first, or all where none is; how many entries there are then.
+// Drops the entries of the identifiers listed, two bytes each, the low one first, and where none is listed, all; how many there are then.
 pub fn drop_listed(entries: &mut [u64], identifiers: &[u8]) -> usize
     ensures { λ r. ⌜ Dropped (identifiersOf (now (identifiers .entry))) (now (entries .entry)) r (now (entries .exit)) ⌝ }
 {
     let n = identifiers.len() / 2;
-    if n == 0 {
-        return 0;
-    }
     if n == 1 {
         return drop_one(entries, listed_at(identifiers, 0));
     }

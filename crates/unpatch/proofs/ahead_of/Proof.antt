@@ -41,7 +41,7 @@ loop-again : tie.Need-loop-again Inv-loop μ-loop
 loop-again c =
     let a = c .before .before .before .before .before .before .args in
     let l = c .before .before .before .before .loop in
-    stay-next (a .dropped ∷ []) (λ k. refl) (a .entries .now) (l .inv) (omega arith)
+    stay-next (a .dropped ∷ []) (a .entries .now) (l .inv) (omega arith)
     (among-one (a .dropped) _ ∙ ne-eqb (a .dropped) _ (λ e. omega (arith, c .before .identifier .ensures)))
 
 returns-2 : tie.Need-returns-2 Inv-loop μ-loop

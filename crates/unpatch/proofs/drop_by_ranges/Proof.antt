@@ -4,8 +4,8 @@ use native.Mathlib.Omega.{arith}
 use lib.ListN.{length}
 use Rattle.unpatch.specs.Unpatch.{identifiersOf}
 use Rattle.unpatch.proofs.Marks.{word-count}
-use Rattle.unpatch.proofs.Found.{found-listed}
-use Rattle.unpatch.proofs.Passes.{some-listed, Dropping, from, unmoved, drop-next, keep-one, dropped}
+use Rattle.unpatch.proofs.Found.{found-dropped}
+use Rattle.unpatch.proofs.Passes.{Dropping, from, unmoved, drop-next, keep-one, dropped}
 use Rattle.unpatch.proofs.drop_by_ranges.Statement.{statement}
 use Rattle.unpatch.proofs.drop_by_ranges.Tie as tie
 
@@ -19,7 +19,7 @@ find-listed-requires : tie.Need-find-listed-requires Inv-loop μ-loop
 find-listed-requires c κs = omega arith
 
 loop-holds : tie.Need-loop-holds Inv-loop μ-loop
-loop-holds c = from (some-listed (c .before .before .before .before .args .identifiers .now) (omega arith)) (omega arith, refl)
+loop-holds c = from (omega arith, refl)
 
 mul-x : tie.Need-mul-x Inv-loop μ-loop
 mul-x c = omega arith
@@ -44,7 +44,7 @@ loop-again c =
     let a = c .before .before .before .before .before .before .before .before .before .before .args in
     let l = c .before .before .before .before .before .loop in
     let f = c .before .before .before .before .before .before .find-listed .ensures in
-    let e = found-listed (identifiersOf (a .identifiers .now)) (a .entries .now) (l .i) f (omega arith) (omega arith) in
+    let e = found-dropped (a .identifiers .now) (a .entries .now) (l .i) (omega arith) f (omega arith) (omega arith) in
     drop-next (l .inv) (omega arith) (rw (unmoved (l .inv)) (sym e ∙ sym (c .before .has-bit .ensures) ∙ c .if1 .taken))
 
 mul-entries : tie.Need-mul-entries Inv-loop μ-loop
@@ -64,7 +64,7 @@ loop-again-2 c =
     let a = c .before .before .before .before .before .before .before .before .before .before .args in
     let l = c .before .before .before .before .before .loop in
     let f = c .before .before .before .before .before .before .find-listed .ensures in
-    let e = found-listed (identifiersOf (a .identifiers .now)) (a .entries .now) (l .i) f (omega arith) (omega arith) in
+    let e = found-dropped (a .identifiers .now) (a .entries .now) (l .i) (omega arith) f (omega arith) (omega arith) in
     keep-one (l .inv) (omega arith) (rw (unmoved (l .inv)) (sym e ∙ sym (c .before .has-bit .ensures) ∙ c .if1 .left))
 
 same-length : tie.Need-same-length Inv-loop μ-loop

@@ -5,12 +5,8 @@ use native.Mathlib.Omega.{arith}
 use borrow.Author.Needs.{needs}
 use Rattle.unpatch.specs.Unpatch.{identifiersOf, Dropped}
 use Rattle.unpatch.proofs.Listed.{one-listed}
-use Rattle.unpatch.proofs.Passes.{none-listed}
 use Rattle.unpatch.proofs.drop_listed.Statement.{statement}
 use Rattle.unpatch.proofs.drop_listed.Tie as tie
-
-returns : tie.Need-returns
-returns c = let a = c .before .before .before .args in none-listed (a .identifiers .now) (a .entries .now) (omega arith)
 
 listed-at-requires : tie.Need-listed-at-requires
 listed-at-requires c κs = search needs
@@ -21,9 +17,9 @@ drop-one-requires c κs = search needs
 same-length : tie.Need-same-length
 same-length c = search needs
 
-returns-2 : tie.Need-returns-2
-returns-2 c =
-    let a = c .before .before .before .before .before .before .before .before .before .args in
+returns : tie.Need-returns
+returns c =
+    let a = c .before .before .before .before .before .before .before .before .args in
     let one = c .before .before .drop-one in
     let e : c .before .before .before .listed-at .result ∷ [] ≡ identifiersOf (a .identifiers .now) =
     ap (λ (k : ℕ). k ∷ []) (c .before .before .before .listed-at .ensures) ∙ sym (one-listed (a .identifiers .now) (omega arith))
@@ -36,8 +32,8 @@ drop-one-by-one-requires c κs = search needs
 same-length-2 : tie.Need-same-length-2
 same-length-2 c = search needs
 
-returns-3 : tie.Need-returns-3
-returns-3 c = search needs
+returns-2 : tie.Need-returns-2
+returns-2 c = search needs
 
 drop-by-ranges-requires : tie.Need-drop-by-ranges-requires
 drop-by-ranges-requires c κs = search needs
@@ -45,21 +41,20 @@ drop-by-ranges-requires c κs = search needs
 same-length-3 : tie.Need-same-length-3
 same-length-3 c = search needs
 
-returns-4 : tie.Need-returns-4
-returns-4 c = search needs
+returns-3 : tie.Need-returns-3
+returns-3 c = search needs
 
 pub drop-listed-spec : {M : Type 1} → statement M
 drop-listed-spec =
     tie.close
     (tie.spec
-    returns
     listed-at-requires
     drop-one-requires
     same-length
-    returns-2
+    returns
     drop-one-by-one-requires
     same-length-2
-    returns-3
+    returns-2
     drop-by-ranges-requires
     same-length-3
-    returns-4)
+    returns-3)

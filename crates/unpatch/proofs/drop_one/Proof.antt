@@ -1,5 +1,5 @@
 use Prim.Native.Nat.{_-_}
-use mathlib.Core.Path.{refl, _∙_}
+use mathlib.Core.Path.{_∙_}
 use mathlib.Core.List.{[], _∷_}
 use native.Mathlib.Omega.{arith}
 use lib.ListN.{length}
@@ -19,7 +19,7 @@ ahead-of-requires : tie.Need-ahead-of-requires Inv-loop μ-loop
 ahead-of-requires c κs = tt
 
 loop-holds : tie.Need-loop-holds Inv-loop μ-loop
-loop-holds c = from (λ k. refl) (c .ahead-of .ensures)
+loop-holds c = from (c .ahead-of .ensures)
 
 mul-x : tie.Need-mul-x Inv-loop μ-loop
 mul-x c = omega arith

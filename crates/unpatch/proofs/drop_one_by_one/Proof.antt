@@ -3,7 +3,7 @@ use mathlib.Core.Path.{refl, sym, _∙_}
 use native.Mathlib.Omega.{arith}
 use lib.ListN.{length}
 use Rattle.unpatch.specs.Unpatch.{identifiersOf}
-use Rattle.unpatch.proofs.Passes.{some-listed, Dropping, from, drop-next, keep-one, dropped}
+use Rattle.unpatch.proofs.Passes.{Dropping, from, drop-next, keep-one, dropped}
 use Rattle.unpatch.proofs.drop_one_by_one.Statement.{statement}
 use Rattle.unpatch.proofs.drop_one_by_one.Tie as tie
 
@@ -14,7 +14,7 @@ abbrev μ-loop : tie.MeasureT-loop
 μ-loop entries₀ identifiers kept₀ i₀ entries kept i = length entries₀ - i
 
 loop-holds : tie.Need-loop-holds Inv-loop μ-loop
-loop-holds c = from (some-listed (c .before .before .args .identifiers .now) (omega arith)) (omega arith, refl)
+loop-holds c = from (omega arith, refl)
 
 mul-x : tie.Need-mul-x Inv-loop μ-loop
 mul-x c = omega arith
@@ -28,8 +28,8 @@ add-i c = omega arith
 identifier-requires : tie.Need-identifier-requires Inv-loop μ-loop
 identifier-requires c κs = tt
 
-is-listed-requires : tie.Need-is-listed-requires Inv-loop μ-loop
-is-listed-requires c κs = tt
+is-dropped-requires : tie.Need-is-dropped-requires Inv-loop μ-loop
+is-dropped-requires c κs = tt
 
 loop-less : tie.Need-loop-less Inv-loop μ-loop
 loop-less c = omega arith
@@ -37,7 +37,7 @@ loop-less c = omega arith
 loop-again : tie.Need-loop-again Inv-loop μ-loop
 loop-again c =
     let l = c .before .before .before .before .before .loop in
-    drop-next (l .inv) (omega arith) (rw (c .before .before .identifier .ensures) at (sym (c .before .is-listed .ensures) ∙ c .if1 .taken))
+    drop-next (l .inv) (omega arith) (rw (c .before .before .identifier .ensures) at (sym (c .before .is-dropped .ensures) ∙ c .if1 .taken))
 
 mul-entries : tie.Need-mul-entries Inv-loop μ-loop
 mul-entries c = omega arith
@@ -54,7 +54,7 @@ loop-less-2 c = omega arith
 loop-again-2 : tie.Need-loop-again-2 Inv-loop μ-loop
 loop-again-2 c =
     let l = c .before .before .before .before .before .loop in
-    keep-one (l .inv) (omega arith) (rw (c .before .before .identifier .ensures) at (sym (c .before .is-listed .ensures) ∙ c .if1 .left))
+    keep-one (l .inv) (omega arith) (rw (c .before .before .identifier .ensures) at (sym (c .before .is-dropped .ensures) ∙ c .if1 .left))
 
 same-length : tie.Need-same-length Inv-loop μ-loop
 same-length c = c .before .loop .inv .keeping .as-many
@@ -73,7 +73,7 @@ drop-one-by-one-spec =
     slice-read-x
     add-i
     identifier-requires
-    is-listed-requires
+    is-dropped-requires
     loop-less
     loop-again
     mul-entries

@@ -6,9 +6,9 @@ use lib.ListN.{length}
 use Rattle.format.specs.View.{unitsOf}
 use Rattle.unpatch.specs.Unpatch.{listedAt}
 use Rattle.patching.specs.Book.{among}
-use Rattle.unpatch.proofs.Listed.{among-none, not-yet, found-there}
-use Rattle.unpatch.proofs.is_listed.Statement.{statement}
-use Rattle.unpatch.proofs.is_listed.Tie as tie
+use Rattle.unpatch.proofs.Listed.{among-none, not-there, not-yet, found-there}
+use Rattle.unpatch.proofs.is_dropped.Statement.{statement}
+use Rattle.unpatch.proofs.is_dropped.Tie as tie
 
 abbrev Inv-loop : tie.InvT-loop
 Inv-loop identifiers identifier n i₀ i = (i ≤ n) × (among (unitsOf i identifiers) identifier ≡ false)
@@ -48,10 +48,10 @@ returns-2 c =
     let a = c .before .before .before .args in
     let l = c .before .loop in
     let e : l .i ≡ length (a .identifiers .now) / 2 = omega arith in
-    sym (ap (λ (n : ℕ). among (unitsOf n (a .identifiers .now)) (a .identifier)) (sym e) ∙ l .inv .1)
+    not-there (a .identifiers .now) (a .identifier) (ap (λ (n : ℕ). among (unitsOf n (a .identifiers .now)) (a .identifier)) (sym e) ∙ l .inv .1)
 
-pub is-listed-spec : {M : Type 1} → statement M
-is-listed-spec =
+pub is-dropped-spec : {M : Type 1} → statement M
+is-dropped-spec =
     tie.close
     (tie.spec
     Inv-loop
