@@ -223,7 +223,7 @@ def compare(program, n):
     some = [some_cleared(rng, list(rng.choice((mixed, filled, full_book, full_universes))(rng))) for _ in range(n)]
     compare_all(program, [*long_streams(), *(b''.join(each) if rng.random() < 0.7 else damaged(rng, each) for each in some)], expected)
     print('of their messages %s' % ', '.join('%d are refused with %s' % (refused[number], number) for number in sorted(refused)))
-    print('%d of the random streams were given a clearing message; of all %d end with a full universe, %d with a full book'
+    print('%d of the random streams were given a clearing message; %d of all streams end with a full universe, %d with a full book'
           % (sum(uptc() in each for each in some), ends['first_free=none'], ends['entries=256']))
 
 

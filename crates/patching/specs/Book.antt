@@ -23,7 +23,7 @@ pub data Message : Type 0 where
   ptch : List ℕ → Message
   uptc : List ℕ → Message
 
--- what a body asks for: a fixture patched; identifiers unpatched, all where there are none; or the number with which it does not read
+-- what a body asks for: a fixture patched, identifiers unpatched; or the number with which it is refused where it does not read
 pub data Change : Type 0 where
   patch : Fields → Change
   unpatch : List ℕ → Change

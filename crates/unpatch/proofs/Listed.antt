@@ -1,4 +1,4 @@
--- The identifiers in a list's bytes, and one more. Assumes nothing.
+-- The identifiers in a list's bytes, one more, and which fixtures they drop. Assumes nothing.
 use Prim.Native.Nat.{ℕ, zero, suc, _+_, _*_, _-_, _/_, _<_, _≤_}
 use mathlib.Core.Path.{_≡_, refl, sym, ap, _∙_}
 use mathlib.Core.Bool.{Bool, true, false, _||_, or-false, or-assoc, or-true}
@@ -58,6 +58,8 @@ first-unit (b ∷ c ∷ s) (suc n) h =
 pub one-listed : (s : List ℕ) → length s / 2 ≡ 1 → identifiersOf s ≡ listedAt s 0 ∷ []
 one-listed s e = ap (λ (n : ℕ). unitsOf n s) e ∙ first-unit s 0 (omega arith)
 
+-- ---- what is dropped
+
 -- where an identifier is listed, a fixture is dropped by name alone; where none is, every one
 pub by-name : (s : List ℕ) → 1 ≤ length s / 2 → (k : ℕ) → drops (identifiersOf s) k ≡ among (identifiersOf s) k
 unfolding unitsOf
@@ -71,13 +73,15 @@ by-clearing : (s : List ℕ) → length s / 2 ≡ 0 → (k : ℕ) → drops (ide
 unfolding unitsOf
 by-clearing s e k = ap (λ (n : ℕ). drops (unitsOf n s) k) e
 
--- a fixture that is not listed is dropped if none is
+-- a fixture that is not listed is dropped exactly if none is
 pub not-there : (s : List ℕ) (k : ℕ) → among (identifiersOf s) k ≡ false → eqb (length s / 2) 0 ≡ drops (identifiersOf s) k
 not-there s k e = go (length s / 2) refl
   where
     go : (n : ℕ) → length s / 2 ≡ n → eqb n 0 ≡ drops (identifiersOf s) k
     go zero q = sym (by-clearing s q k)
     go (suc n) q = eqb·suc-zero n ∙ sym (by-name s (omega arith) k ∙ e)
+
+-- ---- the list read one by one
 
 module _ (s : List ℕ) (i : ℕ) (h : i < length s / 2) (k : ℕ) where
   -- the first identifiers, and one more

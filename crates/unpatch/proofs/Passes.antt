@@ -1,4 +1,4 @@
--- A pass over all words lent, in which the entries of other identifiers are put first. Assumes nothing.
+-- A pass over all words lent, in which the entries that stay are put first. Assumes nothing.
 use Prim.Native.Nat.{ℕ, _+_, _-_, _<_, _≤_}
 use mathlib.Core.Path.{_≡_, refl, sym, ap, _∙_}
 use mathlib.Core.Bool.{Bool, true, false, not}
