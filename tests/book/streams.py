@@ -37,7 +37,7 @@ CLEARED = [
     uptc(),  # none listed: all are dropped
     uptc(),  # of an empty book
     ptch(60, 0, 0, 512),
-    packet(b'FPTC', b'UPtc', u16s() + u16s(60)),  # the added bytes are no list
+    packet(b'FPTC', b'UPtc', u16s() + u16s(1)),  # the added bytes are no list: 60 is dropped
 ]
 
 SMALL = [
