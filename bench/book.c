@@ -1,13 +1,6 @@
-/* Calls on a full patch book, counted by callgrind: a dump for each, named TABLE|ROW|COLUMN, with the instructions from its first to its
- * return. What a call answers is looked at: a row is of the case that it names. */
-#include <stdio.h>
-#include <stdlib.h>
-
-#include <valgrind/callgrind.h>
-
+/* Calls on a full patch book, counted. */
 #include "citp.h"
-
-#define CHECK(x) ((x) ? (void)0 : (fprintf(stderr, "%s:%d: not so: %s\n", __FILE__, __LINE__, #x), exit(1)))
+#include "counted.h"
 
 enum { FIXTURES = 256, MOST = 65535 };
 
@@ -70,13 +63,6 @@ static book full(layout l) {
     }
     CHECK(citp_book_entries(b.count, b.entries, FIXTURES) == FIXTURES);
     return b;
-}
-
-/* Names what the calls since the last CALLGRIND_ZERO_STATS took. */
-static void counted(const char *table, const char *row, const char *column) {
-    char name[200];
-    snprintf(name, sizeof name, "%s|%s|%s", table, row, column);
-    CALLGRIND_DUMP_STATS_AT(name);
 }
 
 /* ---- patches */

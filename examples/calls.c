@@ -301,6 +301,33 @@ static void book(void) {
     is_booked(patched(0, 10, 0, 512), 0, 1);
 }
 
+/* ---- a dimmer rack of universe 3, whose levels are 1 at first; behind them a byte that no call writes */
+
+static uint8_t lent[513];
+
+static void is_set(uint8_t number, uint8_t due, size_t channel, uint8_t level) {
+    CHECK(number == due && lent[channel] == level && lent[512] == 1);
+}
+
+static void rack(void) {
+    static const uint8_t block[] = {0, 3, 0xFE, 1, 2, 0, 7, 8}, past[] = {0, 3, 0xFF, 1, 2, 0, 9, 9}, blind[] = {1, 3, 0xFE, 1, 2, 0, 9, 9};
+    static const uint8_t none[] = {0, 3, 0xFF, 0xFF, 0, 0}, list[] = {3, 0, 3, 5, 0, 10, 4, 0, 2, 9, 3, 5, 0, 11};
+    static const uint8_t wrong[] = {2, 0, 3, 5, 0, 12, 3, 0, 2, 9};
+    memset(lent, 1, sizeof lent);
+    is_set(citp_dimmer_chbk(3, lent, block, sizeof block), 0, 510, 7);
+    is_set(citp_dimmer_chbk(3, lent, blind, sizeof blind), 0, 511, 8);
+    is_set(citp_dimmer_chbk(4, lent, past, 7), 7, 511, 8);
+    is_set(citp_dimmer_chbk(4, lent, past, sizeof past), 0, 511, 8);
+    is_set(citp_dimmer_chbk(3, lent, past, sizeof past), 20, 511, 8);
+    is_set(citp_dimmer_chbk(3, lent, none, sizeof none), 0, 511, 8);
+    is_set(citp_dimmer_chbk(3, lent, NULL, 0), 7, 511, 8);
+    is_set(citp_dimmer_chls(3, lent, list, sizeof list), 0, 5, 11);
+    is_set(citp_dimmer_chls(3, lent, wrong, sizeof wrong), 20, 5, 11);
+    is_set(citp_dimmer_chls(3, lent, list, sizeof list - 1), 7, 5, 11);
+    is_set(citp_dimmer_chls(4, lent, wrong, sizeof wrong), 0, 5, 11);
+    is_set(citp_dimmer_chls(4, lent, list, sizeof list), 20, 5, 11);
+}
+
 /* ---- strings past their limit, where no packet's walk comes first: a book's message, lists that are stepped through */
 
 static void limits(void) {
@@ -380,7 +407,8 @@ int main(void) {
     CHECK(r.writer.items == 0x0102 && r.writer.identifiers == 3 && r.writer.at == 0x04050607);
     counts();
     book();
+    rack();
     limits(), limits_written();
-    printf("20 kinds written, walked and read back; a patch book kept\n");
+    printf("20 kinds written, walked and read back; a patch book kept, a rack's levels set\n");
     return 0;
 }

@@ -1,11 +1,12 @@
-/* CITP packets: reading, walking a stream, writing; the patch book. For the archive libcitp.a (x86-64 Linux).
+/* CITP packets: reading, walking a stream, writing; the patch book; a dimmer rack. For the archive libcitp.a (x86-64
+ * Linux).
  *
  * Every function ends, checks its own input and keeps no state. What each answers is proved equal to a definition, for
  * every input that C can pass.
  *
  * A slice is a pointer and a length in elements (bytes, 16- or 32-bit numbers, 64-bit words). Its elements stand in
- * memory that nothing else writes during the call, aligned as C asks; `out` and `entries` share no byte with another
- * slice. With length 0 the pointer is not used and may be null.
+ * memory that nothing else writes during the call, aligned as C asks; `out`, `entries` and `levels` share no byte with
+ * another slice. With length 0 the pointer is not used and may be null. `levels` is always 512 bytes and never null.
  *
  * `number` is 0, or the refusal. A refused answer's other fields are 0; its place, writer state or count, where it has
  * one, is the one that was given; of a refused packet the walk still tells offset, size, request_index and next:
@@ -25,7 +26,8 @@
  *    17       a channel to be patched is held by another fixture
  *    18       a fixture to be patched is new, and as many are held as there is room for
  *    19       a string, read or to be written, is longer than 255 bytes or units, frame_names than 65,535 bytes
- * A refused call leaves `out` and `entries` as they were.
+ *    20       a channel past 511 is named for the dimmer rack's universe
+ * A refused call leaves `out`, `entries` and `levels` as they were.
  *
  * A string or a block is a range of the body that it was read from: `start` and `len`, counted in bytes, of a Ucs2
  * string `len` in 16-bit units. A list is a cursor: `at`, where its next item stands in the body, and `left`, the items
@@ -602,6 +604,18 @@ citp_entry citp_book_entry(size_t count, const uint64_t *entries, size_t entries
 uint16_t citp_book_taken(size_t count, const uint64_t *entries, size_t entries_len, uint16_t universe);
 /* A universe's first free channel, 0 to 511; 512 where none is free. */
 uint16_t citp_book_first_free(size_t count, const uint64_t *entries, size_t entries_len, uint16_t universe);
+
+/* ---- a dimmer rack of one universe: the levels of its 512 channels, fed by the bodies of ChBk and ChLs. It is the
+ * universe's number, as in the packets, and `levels`, 512 bytes that the caller lends, all 0 at first; every call gets
+ * them as the call before left them. Any values may be given. A message or a record for another universe changes
+ * nothing, nor does a ChBk whose blind is not 0. Each answers 0; or 7 where the body does not read; or 20 where it names
+ * a channel past 511 for the rack's universe, and then none of its levels is set. A ChBk without levels names no
+ * channel. */
+
+/* The body of a ChBk: levels of consecutive channels. */
+uint8_t citp_dimmer_chbk(uint8_t universe_index, uint8_t levels[512], const uint8_t *body, size_t body_len);
+/* The body of a ChLs: levels of single channels, in list order, later ones winning. */
+uint8_t citp_dimmer_chls(uint8_t universe_index, uint8_t levels[512], const uint8_t *body, size_t body_len);
 
 #ifdef __cplusplus
 }

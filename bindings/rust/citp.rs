@@ -725,3 +725,17 @@ functions! {
     /// A universe's first free channel, 0 to 511; 512 where none is free.
     book_first_free(count: usize, entries: &[u64], universe: u16) -> u16;
 }
+
+// ---- a dimmer rack of one universe: the levels of its 512 channels, fed by the bodies of ChBk and ChLs. It is the
+// universe's number, as in the packets, and `levels`, 512 bytes that the caller lends, all 0 at first; every call gets
+// them as the call before left them. Any values may be given. A message or a record for another universe changes
+// nothing, nor does a ChBk whose blind is not 0. Each answers 0; or 7 where the body does not read; or 20 where it
+// names a channel past 511 for the rack's universe, and then none of its levels is set. A ChBk without levels names no
+// channel.
+
+functions! {
+    /// The body of a ChBk: levels of consecutive channels.
+    dimmer_chbk(universe_index: u8, levels: &mut [u8; 512], body: &[u8]) -> u8;
+    /// The body of a ChLs: levels of single channels, in list order, later ones winning.
+    dimmer_chls(universe_index: u8, levels: &mut [u8; 512], body: &[u8]) -> u8;
+}

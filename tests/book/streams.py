@@ -221,7 +221,7 @@ def compare(program, n):
         ends.update(set(re.findall(r'^(first_free=none|entries=256)$', book, re.M)))
         return book
     some = [some_cleared(rng, list(rng.choice((mixed, filled, full_book, full_universes))(rng))) for _ in range(n)]
-    compare_all(program, [*long_streams(), *(b''.join(each) if rng.random() < 0.7 else damaged(rng, each) for each in some)], expected)
+    compare_all([program], [*long_streams(), *(b''.join(each) if rng.random() < 0.7 else damaged(rng, each) for each in some)], expected)
     print('of their messages %s' % ', '.join('%d are refused with %s' % (refused[number], number) for number in sorted(refused)))
     print('%d of the random streams were given a clearing message; %d of all streams end with a full universe, %d with a full book'
           % (sum(uptc() in each for each in some), ends['first_free=none'], ends['entries=256']))

@@ -223,10 +223,10 @@ def write():
     (program / 'stdout').write_text(listing(STREAMS['kinds']), encoding='ascii')
 
 
-def compare_all(program, streams, reference):
-    """Lists streams by a program and by a reference; the first one that differs is written to differs.in."""
+def compare_all(command, streams, reference):
+    """Lists streams by a program with its arguments and by a reference; the first one that differs is written to differs.in."""
     for stream in streams:
-        got = subprocess.run([program], input=stream, stdout=subprocess.PIPE, stderr=subprocess.DEVNULL, check=True).stdout
+        got = subprocess.run(command, input=stream, stdout=subprocess.PIPE, stderr=subprocess.DEVNULL, check=True).stdout
         if got != reference(stream).encode('ascii'):
             pathlib.Path('differs.in').write_bytes(stream)
             sys.exit('a listing differs: differs.in')
@@ -237,7 +237,7 @@ def compare(program, n):
     rng = random.Random(6)
     some = [damaged(rng, [rng.choice(MESSAGES + OTHERS + LIMITS + NAMES) for _ in range(rng.randrange(1, 6))]) for _ in range(n)]
     rigs = [renamed('Source Four \\00E9'), renamed('Source Four é')]
-    compare_all(program, [*long_streams(), *rigs, *some], lambda stream: listing(stream[:65536]))
+    compare_all([program], [*long_streams(), *rigs, *some], lambda stream: listing(stream[:65536]))
     first, second = ([line for line in listing(rig).splitlines() if line.startswith('fixture_name=')] for rig in rigs)
     if first == second:
         sys.exit('a lamp named by a backslash and four digits is listed as one named by the character')

@@ -15,7 +15,7 @@ pub all-both : {A : Type 0} {P Q R : A → Type 0} → ((x : A) → P x → Q x 
 all-both k [] h h′ = tt
 all-both k (x ∷ xs) h h′ = (k x (h .0) (h′ .0), all-both k xs (h .1) (h′ .1))
 
-any-false : {A : Type 0} (test : A → Bool) (xs : List A) → any test xs ≡ false → All (λ x. test x ≡ false) xs
+pub any-false : {A : Type 0} (test : A → Bool) (xs : List A) → any test xs ≡ false → All (λ x. test x ≡ false) xs
 unfolding any
 any-false test [] e = tt
 any-false test (x ∷ xs) e = let both = neither (test x) (any test xs) e in (both .0, any-false test xs (both .1))

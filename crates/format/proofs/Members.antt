@@ -1,8 +1,8 @@
 -- Members of a list of numbers, by a test; and of what `keep` makes of a list, by the elements that it is made of.
 use Prim.Native.Nat.{ℕ}
-use mathlib.Core.Path.{_≡_, refl}
+use mathlib.Core.Path.{_≡_, refl, ap, _∙_}
 use mathlib.Core.Bool.{Bool, true, false, _||_, false≢true}
-use mathlib.Core.List.{List, [], _∷_, map}
+use mathlib.Core.List.{List, [], _∷_, _++_, map}
 use mathlib.Core.Option.{Option, none, some}
 use borrow.Author.Tests.{eqb-true}
 use lib.Dec.{eqb}
@@ -36,11 +36,11 @@ module _ {A B : Type 0} (k : A → Option B) where
     pub among : In element xs
     pub gives : k element ≡ some y
 
-  keep-none : (x : A) (xs : List A) → k x ≡ none → keep k (x ∷ xs) ≡ keep k xs
+  pub keep-none : (x : A) (xs : List A) → k x ≡ none → keep k (x ∷ xs) ≡ keep k xs
   unfolding keep
   keep-none x xs e = rw e refl
 
-  keep-some : (x : A) (xs : List A) {y : B} → k x ≡ some y → keep k (x ∷ xs) ≡ y ∷ keep k xs
+  pub keep-some : (x : A) (xs : List A) {y : B} → k x ≡ some y → keep k (x ∷ xs) ≡ y ∷ keep k xs
   unfolding keep
   keep-some x xs e = rw e refl
 
@@ -80,3 +80,12 @@ pub keep-all : {A B : Type 0} (f : A → B) (xs : List A) → keep (λ x. some (
 unfolding keep
 keep-all f [] = refl
 keep-all f (x ∷ xs) = rw (keep-all f xs) refl
+
+pub keep-append : {A B : Type 0} (k : A → Option B) (xs ys : List A) → keep k (xs ++ ys) ≡ keep k xs ++ keep k ys
+unfolding keep
+keep-append k [] ys = refl
+keep-append {A} {B} k (x ∷ xs) ys = by (k x) refl (keep-append k xs ys)
+  where
+    by : (o : Option B) → k x ≡ o → keep k (xs ++ ys) ≡ keep k xs ++ keep k ys → keep k (x ∷ (xs ++ ys)) ≡ keep k (x ∷ xs) ++ keep k ys
+    by none e more = keep-none k x (xs ++ ys) e ∙ more ∙ rw (keep-none k x xs e) refl
+    by (some y) e more = keep-some k x (xs ++ ys) e ∙ ap (y ∷_) more ∙ rw (keep-some k x xs e) refl

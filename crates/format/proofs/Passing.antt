@@ -3,14 +3,14 @@ use Prim.Native.Nat.{ℕ, zero, suc, _+_, _-_, _*_, _<_, _≤_}
 use mathlib.Core.Path.{_≡_, refl, sym, ap, _∙_}
 use mathlib.Core.Bool.{Bool, true, false}
 use mathlib.Core.List.{List, [], _∷_, map}
-use native.Mathlib.Nat.{suc-mul, zero-mul, one-mul, add-assoc, add-zero}
+use native.Mathlib.Nat.{suc-mul, zero-mul, one-mul, add-assoc, add-zero, zero-add, suc-add}
 use native.Mathlib.Omega.{arith}
 use borrow.Author.Tests.{leb-true, leb-false}
 use lib.ListN.{length, take, drop, getD, length-drop}
 use lib.Seq.{drop-drop, drop-cons}
 use lib.Dec.{leb, eqb·suc-zero}
 use Rattle.format.specs.Format.{Format, number, code, cstring, ucs2, list, _&_, Value, Read, got, refused, bind, pick, decodeNumber, decodeItems, decode, total, size}
-use Rattle.format.proofs.Reading.{Gives, gives, fails, given}
+use Rattle.format.proofs.Reading.{Gives, gives, fails, given, gives-bind}
 use Rattle.format.proofs.Width.{Behind, number-behind, decode-behind, items-count, Fixed, width, size-is-width}
 use Rattle.format.specs.View.{View, Seen, seen, missed, view, placed, place, stepped, steps, look}
 use Rattle.format.specs.Passed.{ended, passed, past, room}
@@ -233,7 +233,7 @@ module _ (f : Format) (p : Plain f) where
           ∙ ap (λ (x : Read (List (Value f))). bind x (λ xs u. got (a .value ∷ xs) u)) (ap (decodeItems (decode f) n) t ∙ rest l)
       by false e rest = rw (plain-short f p s (leb-false (width f) (length s) e))
 
-  total-width : (xs : List (Value f)) → total (size f) xs ≡ length xs * width f
+  pub total-width : (xs : List (Value f)) → total (size f) xs ≡ length xs * width f
   unfolding total
   total-width [] = sym (zero-mul (width f))
   total-width (x ∷ xs) = omega (arith, total-width xs, size-is-width f (plain-fixed f p) x, suc-mul (length xs) (width f))
@@ -254,6 +254,55 @@ module _ (f : Format) (p : Plain f) where
 -- numbers are passed where their bytes are
 pub past-plain : (f : Format) → Plain f → (s : List ℕ) (at : ℕ) → past (view f s at) ≡ room s at (width f)
 past-plain f p s at = sym (past-once f s at) ∙ passed-plain f p s at 1 ∙ ap (room s at) (one-mul (width f))
+
+-- ---- numbers only are read out of their own bytes, whatever stands behind them
+
+number-own : (w k : ℕ) (t : List ℕ) → Gives (λ n u. decodeNumber w (take (w + k) t) ≡ got n (take k u)) (decodeNumber w t)
+unfolding decodeNumber
+number-own zero k t = gives {a = 0} {t = t} (rw zero-add refl)
+number-own (suc w) k [] = fails
+number-own (suc w) k (b ∷ t) = gives-bind (number-own w k t) λ n u h. gives {a = b + 256 * n} {t = u} (rw (suc-add, h) refl)
+
+plain-own : (f : Format) → Plain f → (k : ℕ) (t : List ℕ) → Gives (λ v u. decode f (take (width f + k) t) ≡ got v (take k u)) (decode f t)
+unfolding decode
+plain-own (number w) p k t = number-own w k t
+plain-own (code n r) p k t = absurd p
+plain-own (cstring m) p k t = absurd p
+plain-own (ucs2 m) p k t = absurd p
+plain-own (list w f) p k t = absurd p
+plain-own (f & g) p k t = gives-bind (plain-own f (p .0) (width g + k) t) λ a u h.
+    gives-bind (plain-own g (p .1) k u) λ b r h′. gives {a = (a, b)} {t = r} (rw (add-assoc, h, h′) refl)
+
+-- and their view has no offset
+plain-place : (f : Format) → Plain f → (at : ℕ) (v : Value f) → place f at v ≡ place f 0 v
+unfolding place
+plain-place (number w) p at v = refl
+plain-place (code n r) p at v = absurd p
+plain-place (cstring m) p at v = absurd p
+plain-place (ucs2 m) p at v = absurd p
+plain-place (list w f) p at v = absurd p
+plain-place (f & g) p at v =
+    let second = plain-place g (p .1) (at + size f (v .0)) (v .1) in
+    let alone = plain-place g (p .1) (0 + size f (v .0)) (v .1) in
+    rw (plain-place f (p .0) at (v .0), second, alone) refl
+
+-- so what is seen in their own bytes is seen in the whole
+pub record Own (f : Format) (s : List ℕ) (at : ℕ) : Type 0 where
+  pub fields : View f
+  pub alone : view f (take (width f) (drop at s)) 0 ≡ seen fields (width f)
+  pub whole : view f s at ≡ seen fields (at + width f)
+
+pub own-bytes : (f : Format) → Plain f → (s : List ℕ) (at : ℕ) → at + width f ≤ length s → Own f s at
+unfolding view placed
+own-bytes f p s at h =
+    let a = plain-there f p (drop at s) (omega (arith, length-drop at s)) in
+    let o : decode f (take (width f) (drop at s)) ≡ got (a .value) [] = rw add-zero at (given (plain-own f p 0 (drop at s)) (a .reads)) in
+    let w : size f (a .value) ≡ width f = size-is-width f (plain-fixed f p) (a .value) in
+    record {
+      fields = place f 0 (a .value);
+      alone = rw (o, w, zero-add) refl;
+      whole = rw (a .reads, plain-place f p at (a .value), w) refl;
+    }
 
 -- ---- a block of bytes: stepping through it gives the bytes of its range
 

@@ -1,12 +1,12 @@
 -- The items of a list, listed by a loop that steps through it.
-use Prim.Native.Nat.{ℕ, zero, suc, _-_, _<_}
+use Prim.Native.Nat.{ℕ, zero, suc, _<_}
 use mathlib.Core.Path.{_≡_, refl, _∙_}
 use mathlib.Core.List.{List, [], _++_}
 use native.Mathlib.Omega.{arith}
-use lib.Dec.{eqb·suc-zero}
 use Rattle.format.specs.Format.{Format, concatMap}
-use Rattle.format.specs.View.{View, Seen, seen, missed, view, Next, item, done, broken, onward, stepped, steps}
+use Rattle.format.specs.View.{View, Seen, seen, missed, view, Next, item, done, broken, stepped, steps}
 use Rattle.format.proofs.Chain.{met}
+use Rattle.format.proofs.Look.{stepped-at}
 use Rattle.text.specs.Prints.{Prints}
 use Rattle.text.proofs.Loops.{Onto, onto-more, onto-all}
 use Rattle.lines.specs.Lines.{Listed, lines, itemLines, Lists}
@@ -18,15 +18,11 @@ module _ {f : Format} (l : Listed f) (s : List ℕ) (at : ℕ) where
   Told n done = itemLines l s at n ≡ []
   Told n (broken k) = itemLines l s at n ≡ []
 
-  next-at : (n : ℕ) {r : Seen (View f)} → view f s at ≡ r → stepped f s at (suc n) ≡ onward n r
-  unfolding stepped
-  next-at n e = let p : suc n - 1 ≡ n = omega arith in rw (eqb·suc-zero n, p, e) refl
-
   by : (n : ℕ) (r : Seen (View f)) → view f s at ≡ r → Told n (stepped f s at n)
   unfolding itemLines steps concatMap stepped
   by zero r q = refl
-  by (suc n) (seen a e) q = rw (next-at n q) (omega arith, rw (next-at n q) refl)
-  by (suc n) (missed k) q = rw (next-at n q) (rw (next-at n q) refl)
+  by (suc n) (seen a e) q = rw (stepped-at f s at n q) (omega arith, rw (stepped-at f s at n q) refl)
+  by (suc n) (missed k) q = rw (stepped-at f s at n q) (rw (stepped-at f s at n q) refl)
 
   told : (n : ℕ) {x : Next (View f)} → stepped f s at n ≡ x → Told n x
   told n e = rw e at (by n (view f s at) refl)

@@ -7,3 +7,4 @@ pub mod Rows
 pub mod Arms
 pub mod Bodies
 pub mod Fixtures
+pub mod Values

@@ -257,7 +257,7 @@ enum ChannelLevelRead {
 
 impl ChannelLevel {
     // The bytes of a record.
-    const WIDTH: usize = 4;
+    pub const WIDTH: usize = 4;
 
     fn read_from_bytes(c: Cursor, body: &[u8]) -> ChannelLevelRead
         ensures { λ r. ⌜ channelLevelSays r ≡ view channelLevelFormat (now (body .entry)) (c .at) ⌝ }

@@ -1,0 +1,4 @@
+pub mod Theorem
+pub mod Named
+pub mod Numbers
+pub mod Example
