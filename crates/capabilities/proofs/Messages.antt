@@ -13,7 +13,7 @@ use lib.Dec.{eqb}
 use Rattle.format.specs.Fault.{any}
 use Rattle.format.specs.Refusals.{is_one_of}
 use Rattle.protocol.specs.Layer.{Layer, SDMX, cookie}
-use Rattle.protocol.specs.Kind.{Kind, ChLs, Sxus, layer, same_kind_lem}
+use Rattle.protocol.specs.Kind.{Kind, ChLs, Sxus, layer, same_kind}
 use Rattle.protocol.proofs.Every.{same_kind_lem}
 use Rattle.sdmx.specs.Says as sdmx
 use Rattle.citp.specs.Says.{message_kind, report_says}
@@ -64,13 +64,13 @@ module _ {n : ℕ} {xs : List ℕ} {i : ℕ} (l : Looking n xs i) where
 
 -- a kind of another layer than SDMX is supported
 other-layer : (lists sources : Bool) (k : Kind) {l : Layer} → layer k ≡ l → eqb (cookie l) (cookie SDMX) ≡ false → lacking lists sources k ≡ false
-other-layer lists sources k {l} e d = go (same_kind_lem k ChLs) (same_kind_lem k Sxus) refl refl
+other-layer lists sources k {l} e d = go (same_kind k ChLs) (same_kind k Sxus) refl refl
   where
-    not-sdmx : (j : Kind) → layer j ≡ SDMX → same_kind_lem k j ≡ true → ⊥
+    not-sdmx : (j : Kind) → layer j ≡ SDMX → same_kind k j ≡ true → ⊥
     not-sdmx j f h =
         true≢false (sym (eq-eqb (cookie l) (cookie SDMX) (ap cookie (sym e ∙ ap layer (same_kind_lem k j h) ∙ f))) ∙ d)
 
-    go : (a b : Bool) → same_kind_lem k ChLs ≡ a → same_kind_lem k Sxus ≡ b → ((a && not lists) || (b && not sources)) ≡ false
+    go : (a b : Bool) → same_kind k ChLs ≡ a → same_kind k Sxus ≡ b → ((a && not lists) || (b && not sources)) ≡ false
     go true b g h = absurd (not-sdmx ChLs refl g)
     go false true g h = absurd (not-sdmx Sxus refl h)
     go false false g h = refl

@@ -8,7 +8,7 @@ use native.Mathlib.Omega.{arith}
 use lib.ListN.{length, drop, length-append, length-drop}
 use lib.Seq.{drop-drop, drop-append_seam}
 use Rattle.format.specs.Format.{concat_map, All, total}
-use Rattle.format.specs.Walk.{Step, stop, report, follow, walk_from_lem, walk_all, reports, keep, Ended}
+use Rattle.format.specs.Walk.{Step, stop, report, follow, walk_from, walk_all, reports, keep, Ended}
 
 -- ---- packets laid end to end
 
@@ -18,8 +18,8 @@ module _ {P R : Type 0} (step : List ℕ → ℕ → Step R) (bytes : P → List
     -- packets at an offset and a tail behind them at which the step stops with n: the walk from there
     walk_from_lem : (s tail : List ℕ) (n : ℕ) → ((at : ℕ) → drop at s ≡ tail → step s at ≡ stop n at) → (ps : List P) → All Sent ps
         → (at : ℕ) → drop at s ≡ concat_map bytes ps ++ tail → (fuel : ℕ) → length ps < fuel
-        → walk_from_lem step fuel s at ≡ (reports bytes expected at ps, some (n, at + length (concat_map bytes ps)))
-    unfolding walk_from_lem reports concat_map
+        → walk_from step fuel s at ≡ (reports bytes expected at ps, some (n, at + length (concat_map bytes ps)))
+    unfolding walk_from reports concat_map
     walk_from_lem s tail n stops ps hs at e zero l = absurd (not-suc-le-zero l)
     walk_from_lem s tail n stops [] hs at e (suc fuel) l = let z : at + 0 ≡ at = omega arith in rw (stops at e, z)
     walk_from_lem s tail n stops (p ∷ ps) hs at e (suc fuel) l =
@@ -68,13 +68,13 @@ pub data Steps {R : Type 0} (Last : ℕ → Type 0) (size_of : R → ℕ) (at le
 
 module _ {R : Type 0} (step : List ℕ → ℕ → Step R) (Last : ℕ → Type 0) (size_of : R → ℕ)
     (does : (s : List ℕ) (at : ℕ) → Steps Last size_of at (length (drop at s)) (step s at)) where
-  ends-from : (s : List ℕ) (fuel at : ℕ) → at ≤ length s → length s - at < fuel → Ended Last size_of s at (walk_from_lem step fuel s at)
-  unfolding walk_from_lem total
+  ends-from : (s : List ℕ) (fuel at : ℕ) → at ≤ length s → length s - at < fuel → Ended Last size_of s at (walk_from step fuel s at)
+  unfolding walk_from total
   ends-from s zero at l f = absurd (not-suc-le-zero f)
   ends-from s (suc fuel) at l f = on (step s at) (does s at) (ends-from s fuel) where
     on : (x : Step R) → Steps Last size_of at (length (drop at s)) x
-        → ((at : ℕ) → at ≤ length s → length s - at < fuel → Ended Last size_of s at (walk_from_lem step fuel s at))
-        → Ended Last size_of s at (follow (walk_from_lem step fuel s) x)
+        → ((at : ℕ) → at ≤ length s → length s - at < fuel → Ended Last size_of s at (walk_from step fuel s at))
+        → Ended Last size_of s at (follow (walk_from step fuel s) x)
     on x (stops {n} h z) ends = record {
       number = n;
       offset = at;

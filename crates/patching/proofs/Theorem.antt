@@ -19,7 +19,7 @@ use Rattle.protocol.specs.Kind.{body_of, Ptch, UPtc}
 use Rattle.format.proofs.Bools.{neither}
 use Rattle.patching.specs.Bits.{many, first}
 use Rattle.patching.specs.Entry.{Entry, universe, channel, channel_count, Fields, fields, entry_of, Key, key}
-use Rattle.patching.specs.Entry.{same_key_lem, same, end, spans, holds, shares, insert}
+use Rattle.patching.specs.Entry.{same_key, same, end, spans, holds, shares, insert}
 use Rattle.patching.specs.Book.{filter, Message, ptch, uptc, Change, patch, unpatch, unread, as_patch, as_unpatch, change, drops, without, others, changed}
 use Rattle.patching.specs.Book.{misfits, clashes, is_full, number, settled, room_in, held, overwrite, answer, taken_at, taken_in, free_in}
 use Rattle.patching.specs.Claims as claims
@@ -57,7 +57,7 @@ settled_same zero x = refl
 settled_same (suc n) x = refl
 
 -- keys are told apart by the test
-same_key_lem : {k j : Key} → k ≡ j → same_key_lem k j ≡ true
+same_key_lem : {k j : Key} → k ≡ j → same_key k j ≡ true
 same_key_lem {k = k} {j = j} e = eq-eqb k j e
 
 -- the fixtures that stay are others
@@ -152,23 +152,23 @@ module _ (f : Fields) (narrow : Narrow f) (l : List Entry) (o : Key → Option F
   mine : fields e ≡ f
   mine = fields-of f narrow
 
-  tells-insert : Tells (insert e (others e l)) (λ k. pick (same_key_lem (key f) k) (some f) (o k))
-  tells-insert = record { held-stands = λ x i. from x (insert-in e (others e l) i); stands-held = λ g. to g (same_key_lem (key f) (key g)) refl }
+  tells-insert : Tells (insert e (others e l)) (λ k. pick (same_key (key f) k) (some f) (o k))
+  tells-insert = record { held-stands = λ x i. from x (insert-in e (others e l) i); stands-held = λ g. to g (same_key (key f) (key g)) refl }
     where
-      from : (x : Entry) → (x ≡ e) ⊎ In x (others e l) → pick (same_key_lem (key f) (key (fields x))) (some f) (o (key (fields x))) ≡ some (fields x)
+      from : (x : Entry) → (x ≡ e) ⊎ In x (others e l) → pick (same_key (key f) (key (fields x))) (some f) (o (key (fields x))) ≡ some (fields x)
       from x (inl q) =
           let w : f ≡ fields x = sym mine ∙ ap fields (sym q) in
           ap (λ (b : Bool). pick b (some f) (o (key (fields x)))) (same_key_lem (ap key w)) ∙ ap some w
       from x (inr i) =
           let d : same e x ≡ false = all_in (λ y. same e y ≡ false) (others e l) i (others-differ e l) in
-          ap (λ (b : Bool). pick b (some f) (o (key (fields x)))) (ap (λ (g : Fields). same_key_lem (key g) (key (fields x))) (sym mine) ∙ d)
+          ap (λ (b : Bool). pick b (some f) (o (key (fields x)))) (ap (λ (g : Fields). same_key (key g) (key (fields x))) (sym mine) ∙ d)
           ∙ t.held-stands x (filter-in other l i)
 
-      stay : (g : Fields) → In g (map fields l) → same_key_lem (key f) (key g) ≡ false → In g (map fields (insert e (others e l)))
-      stay g = of_map fields (λ h. same_key_lem (key f) (key h) ≡ false → In h (map fields (insert e (others e l)))) l
-          (λ x j p. in_map fields (in_insert e (in-filter other l j (ap not (ap (λ (h : Fields). same_key_lem (key h) (key (fields x))) mine ∙ p)))))
+      stay : (g : Fields) → In g (map fields l) → same_key (key f) (key g) ≡ false → In g (map fields (insert e (others e l)))
+      stay g = of_map fields (λ h. same_key (key f) (key h) ≡ false → In h (map fields (insert e (others e l)))) l
+          (λ x j p. in_map fields (in_insert e (in-filter other l j (ap not (ap (λ (h : Fields). same_key (key h) (key (fields x))) mine ∙ p)))))
 
-      to : (g : Fields) (b : Bool) → same_key_lem (key f) (key g) ≡ b → pick b (some f) (o (key g)) ≡ some g → In g (map fields (insert e (others e l)))
+      to : (g : Fields) (b : Bool) → same_key (key f) (key g) ≡ b → pick b (some f) (o (key g)) ≡ some g → In g (map fields (insert e (others e l)))
       to g true q s =
           let w : f ≡ g = cc in
           subst (λ (h : Fields). In h (map fields (insert e (others e l)))) (mine ∙ w) (in_map fields (inserted e (others e l)))

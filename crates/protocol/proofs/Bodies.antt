@@ -2,7 +2,7 @@
 use Prim.Native.Nat.{ℕ}
 use Rattle.format.specs.Format.{Format, number, code, cstring, ucs2, list, ◌&◌, pick}
 use Rattle.format.specs.View.{View}
-use Rattle.protocol.specs.Kind.{Kind, body_of, same_kind_lem}
+use Rattle.protocol.specs.Kind.{Kind, body_of, same_kind}
 use Rattle.protocol.specs.Step.{Body, known, unread, refused_with}
 
 -- the answer about a body, by its cases
@@ -52,4 +52,4 @@ as_kind j row k v = row (view_of (body_of j) (numbers_of (body_of k) v))
 
 -- and one before others
 abbrev pub if_kind : {A : Type 0} (j : Kind) → (View (body_of j) → A) → ((k : Kind) → View (body_of k) → A) → (k : Kind) → View (body_of k) → A
-if_kind j row others k v = pick (same_kind_lem k j) (as_kind j row k v) (others k v)
+if_kind j row others k v = pick (same_kind k j) (as_kind j row k v) (others k v)

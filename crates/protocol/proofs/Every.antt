@@ -8,7 +8,7 @@ use lib.ListN.{get_or}
 use borrow.Author.Tests.{eqb-true}
 use Rattle.format.specs.Format.{All}
 use Rattle.format.proofs.Bools.{both}
-use Rattle.protocol.specs.Kind.{Kind, index, same_kind_lem, kinds}
+use Rattle.protocol.specs.Kind.{Kind, index, same_kind, kinds}
 use Rattle.protocol.specs.Kind as kind
 
 -- ---- a kind is known by its index
@@ -35,7 +35,7 @@ kind-at kind.PLoc = refl
 kind-at kind.LaserFeedList = refl
 kind-at kind.LaserFeedFrame = refl
 
-pub same_kind_lem : (j k : Kind) → same_kind_lem j k ≡ true → j ≡ k
+pub same_kind_lem : (j k : Kind) → same_kind j k ≡ true → j ≡ k
 same_kind_lem j k e = sym (kind-at j) ∙ ap (λ (n : ℕ). get_or kinds n kind.EnterShow) (eqb-true (index j) (index k) e) ∙ kind-at k
 
 -- ---- what a computed test shows of each kind
@@ -67,7 +67,7 @@ every-kind test e = each-kind (λ k. test k ≡ true) (every-all test kinds e)
 -- the kind was found
 abbrev is_found : Kind → Option Kind → Bool
 is_found k none = false
-is_found k (some j) = same_kind_lem j k
+is_found k (some j) = same_kind j k
 
 -- a lookup that finds every kind of the table, by computation, finds each kind
 pub found-kind : (f : Kind → Option Kind) → every (λ k. is_found k (f k)) kinds ≡ true → (k : Kind) → f k ≡ some k

@@ -93,8 +93,8 @@ content_type k = (figures k).content_type
 abbrev pub body_of : Kind → Format
 body_of k = (figures k).body
 
-abbrev pub same_kind_lem : Kind → Kind → Bool
-same_kind_lem j k = eqb (index j) (index k)
+abbrev pub same_kind : Kind → Kind → Bool
+same_kind j k = eqb (index j) (index k)
 
 -- ---- which kind a packet is
 

@@ -7,7 +7,7 @@ use native.Mathlib.Omega.{arith}
 use lib.ListN.{length}
 use lib.Seq.{sets}
 use Rattle.format.specs.Format.{Format, Value, encode, size}
-use Rattle.format.specs.Fault.{holds_zero, over_limit, length_fault, weighed}
+use Rattle.format.specs.Fault.{holds_zero, over_limit, too_long, weighed}
 use Rattle.format.proofs.Width.{size-is-length}
 use Rattle.put.specs.Put.{Writes, capped, Weighs, settled, put_judged}
 use Rattle.put.specs.declared.Put.{Put}
@@ -42,7 +42,7 @@ weight-head {n} {len} {at} {out} {zeros} {zeros'} {over} {over'} {long} {long'} 
 -- a body
 pub weight : {n len at : ℕ} {out : List ℕ} {z o l : Bool} {f : Format} {v : Value f}
     → Weighs n z o l at len (length out) → Judged zero_fault f v z → Judged limit_fault f v o → Judged length_fault f v l → Sized f v len
-    → Weighed n (holds_zero f v) (over_limit f v) (length_fault f v) f v at out
+    → Weighed n (holds_zero f v) (over_limit f v) (too_long f v) f v at out
 weight w z o l s = weight-head w z.judged-as o.judged-as l.judged-as s
 
 -- ---- what a writer answers

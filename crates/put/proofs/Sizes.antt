@@ -7,7 +7,7 @@ use native.Mathlib.Omega.{arith}
 use lib.ListN.{length}
 use lib.Dec.{leb}
 use Rattle.format.specs.Format.{number, list, size, total}
-use Rattle.format.specs.Fault.{length_fault}
+use Rattle.format.specs.Fault.{too_long}
 use Rattle.format.proofs.Faults.{any-never}
 
 total-numbers : (w : ℕ) (s : List ℕ) → total (size (number w)) s ≡ length s * w
@@ -19,8 +19,8 @@ pub numbers-size : (w : ℕ) (s : List ℕ) → size (list 2 (number w)) s ≡ 2
 unfolding size
 numbers-size w s = rw (total-numbers w s) refl
 
-pub numbers-too-long : (w : ℕ) (s : List ℕ) → length_fault (list 2 (number w)) s ≡ leb 65536 (length s)
-unfolding length_fault
+pub numbers-too-long : (w : ℕ) (s : List ℕ) → too_long (list 2 (number w)) s ≡ leb 65536 (length s)
+unfolding too_long
 numbers-too-long w s = rw any-never (or-false (leb 65536 (length s)))
   where
     or-false : (a : Bool) → (a || false) ≡ a

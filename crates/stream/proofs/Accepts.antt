@@ -14,7 +14,7 @@ use Rattle.format.proofs.Faults.{valid-no-zero, valid-not-over, valid-not-long, 
 use Rattle.format.proofs.Lists.{all_append, all_of_map}
 use Rattle.format.proofs.Width.{size-is-length}
 use Rattle.protocol.specs.Layer.{header_length}
-use Rattle.protocol.specs.Kind.{Kind, index, layer, body_of, same_kind_lem}
+use Rattle.protocol.specs.Kind.{Kind, index, layer, body_of, same_kind}
 use Rattle.protocol.specs.Kind.{identifier_format, fixture_data_format, fixture_head, fixture_format, feed_name_format, laser_point_format}
 use Rattle.protocol.specs.Kind.{FixtureList, LaserFeedList, LaserFeedFrame}
 use Rattle.protocol.specs.Message.{Message, headers_of, packet_size, Sendable}
@@ -134,7 +134,7 @@ parts-turns k v = by (form k) refl v
   where
     by : {k : Kind} (f : Form k) → is_flat k ≡ is_flat_form f → (v : Value (body_of k)) → Turns (body_due k) (parts_in f v) (items_due k 0)
     by {k} flat e v =
-        let due : (is_flat k && same_kind_lem k k) ≡ true = rw (e, eq-eqb (index k) (index k) refl) in
+        let due : (is_flat k && same_kind k k) ≡ true = rw (e, eq-eqb (index k) (index k) refl) in
         go due (le_refl (header_length (layer k))) stay
     by fixtures e v = go refl (le_refl 24) (fixtures-turns v.1)
     by names e v = go refl (le_refl 24) (names-turns v.1)

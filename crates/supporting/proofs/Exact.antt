@@ -11,7 +11,7 @@ use Rattle.format.specs.Refusals.{is_one_of}
 use Rattle.format.specs.View.{View}
 use Rattle.format.proofs.Bools.{both, either}
 use Rattle.format.proofs.Members.{one_of, in-one-of, kept_of, keeps}
-use Rattle.protocol.specs.Kind.{Kind, ChLs, Sxus, same_kind_lem}
+use Rattle.protocol.specs.Kind.{Kind, ChLs, Sxus, same_kind}
 use Rattle.protocol.specs.Step.{Content, message, unknown, fragment, refusal, Report, walk}
 use Rattle.protocol.proofs.Every.{same_kind_lem}
 use Rattle.stream.proofs.Numbers.{ends}
@@ -38,9 +38,9 @@ module _ (capabilities : List ℕ) where
 
   lacks : (k : Kind) → unsupported capabilities k ≡ true → UnsupportedKind capabilities k
   lacks k h =
-      elim (either (same_kind_lem k ChLs && not (is_one_of capabilities 1)) (same_kind_lem k Sxus && not (is_one_of capabilities 3)) h) [
-        | inl a ↦ let b = both (same_kind_lem k ChLs) (not (is_one_of capabilities 1)) a in of-kind (same_kind_lem k ChLs b.0) (channel_lists (absent 1 b.1))
-        | inr a ↦ let b = both (same_kind_lem k Sxus) (not (is_one_of capabilities 3)) a in of-kind (same_kind_lem k Sxus b.0) (external_sources (absent 3 b.1))
+      elim (either (same_kind k ChLs && not (is_one_of capabilities 1)) (same_kind k Sxus && not (is_one_of capabilities 3)) h) [
+        | inl a ↦ let b = both (same_kind k ChLs) (not (is_one_of capabilities 1)) a in of-kind (same_kind_lem k ChLs b.0) (channel_lists (absent 1 b.1))
+        | inr a ↦ let b = both (same_kind k Sxus) (not (is_one_of capabilities 3)) a in of-kind (same_kind_lem k Sxus b.0) (external_sources (absent 3 b.1))
       ]
 
   lacked : {k : Kind} → UnsupportedKind capabilities k → unsupported capabilities k ≡ true

@@ -4,7 +4,7 @@ use Rattle.std.proofs.Math.Option.{Option, none, some}
 use Rattle.format.specs.Format.{Format, pick}
 use Rattle.format.specs.Refusals.{is_one_of}
 use Rattle.format.specs.Walk.{keep}
-use Rattle.protocol.specs.Kind.{Kind, ChLs, Sxus, same_kind_lem}
+use Rattle.protocol.specs.Kind.{Kind, ChLs, Sxus, same_kind}
 use Rattle.protocol.specs.Step.{Content, message, unknown, fragment, refusal, Report, walk}
 
 -- ---- the offsets of messages
@@ -37,7 +37,7 @@ stop_of s = end_number (walk s).1
 
 -- ChLs where channel lists are not supported, Sxus where per-universe external sources are not
 abbrev pub lacking : (lists sources : Bool) → Kind → Bool
-lacking lists sources k = (same_kind_lem k ChLs && not lists) || (same_kind_lem k Sxus && not sources)
+lacking lists sources k = (same_kind k ChLs && not lists) || (same_kind k Sxus && not sources)
 
 -- capability 1 is channel lists, 3 per-universe external sources
 abbrev pub unsupported : (capabilities : List ℕ) → Kind → Bool

@@ -1,7 +1,7 @@
 // The kinds of message with their figures, whose turn it is in a packet, and the headers with which a packet is opened.
 ghost use Rattle.std.specs.Prelude.{◌≡◌, false, ◌&&◌, ◌-◌};
 ghost use Rattle.protocol.specs.Layer.{cookie, header_length, hint_length, header, layer_header};
-ghost use Rattle.protocol.specs.Kind.{layer, content_type, same_kind_lem};
+ghost use Rattle.protocol.specs.Kind.{layer, content_type, same_kind};
 ghost use Rattle.protocol.specs.Kind as kinds;
 ghost use Rattle.protocol.specs.Message.{header_of};
 ghost use Rattle.format.specs.Format.{number, ◌&◌};
@@ -111,7 +111,7 @@ impl Kind {
     }
 
     pub fn same(self, other: Kind) -> bool
-        ensures { result ≡ same_kind_lem (kind_is self) (kind_is other) }
+        ensures { result ≡ same_kind (kind_is self) (kind_is other) }
     {
         self.figures().index == other.figures().index
     }

@@ -9,7 +9,7 @@ use lib.ListN.{length, length-append}
 use lib.Dec.{ltb}
 use Rattle.format.specs.Format.{Value, concat_map}
 use Rattle.format.proofs.Lists.{concat_map-append, map-append}
-use Rattle.protocol.specs.Kind.{Kind, body_of, same_kind_lem, identifier_format, fixture_data_format, fixture_head, fixture_format, laser_point_format}
+use Rattle.protocol.specs.Kind.{Kind, body_of, same_kind, identifier_format, fixture_data_format, fixture_head, fixture_format, laser_point_format}
 use Rattle.protocol.specs.Kind.{FixtureList, LaserFeedList, LaserFeedFrame}
 use Rattle.protocol.specs.Message.{Message}
 use Rattle.protocol.proofs.Every.{same_kind_lem}
@@ -60,8 +60,8 @@ items_at : (k : Kind) (t : Turn) (cs : List Call) → is_item k t ≡ true → S
 items_at k idle cs e h = absurd (false≢true e)
 items_at k (body_due j) cs e h = absurd (false≢true e)
 items_at k (items_due j n) cs e h = (
-  subst (λ (i : Kind). Given cs i n) (same_kind_lem j k (both (same_kind_lem j k) (ltb 0 n) e).0) h,
-  ltb-true 0 n (both (same_kind_lem j k) (ltb 0 n) e).1,
+  subst (λ (i : Kind). Given cs i n) (same_kind_lem j k (both (same_kind j k) (ltb 0 n) e).0) h,
+  ltb-true 0 n (both (same_kind j k) (ltb 0 n) e).1,
 )
 items_at k (parts_due n i) cs e h = absurd (false≢true e)
 

@@ -4,7 +4,7 @@ use Rattle.std.proofs.lemmas.List.Edits.{sets}
 use Rattle.format.specs.Format.{number, pick, encode}
 use Rattle.format.specs.Fault.{weighed}
 use Rattle.protocol.specs.Layer.{header_length}
-use Rattle.protocol.specs.Kind.{Kind, layer, same_kind_lem, FixtureList, LaserFeedList, LaserFeedFrame}
+use Rattle.protocol.specs.Kind.{Kind, layer, same_kind, FixtureList, LaserFeedList, LaserFeedFrame}
 use Rattle.writing.specs.Call.{Part, body, laser_feed_list, feed_name, laser_feed_frame, laser_point, fixture_list, fixture, identifier, fixture_data}
 use Rattle.writing.specs.Call.{Call, opens, give, closes, bytes_of, zero_in, over_limit_in, too_long_in, form, is_flat_form}
 
@@ -31,14 +31,14 @@ is_idle (parts_due n i) = false
 
 abbrev pub is_body : Kind → Turn → Bool
 is_body k idle = false
-is_body k (body_due j) = same_kind_lem j k
+is_body k (body_due j) = same_kind j k
 is_body k (items_due j n) = false
 is_body k (parts_due n i) = false
 
 abbrev pub is_item : Kind → Turn → Bool
 is_item k idle = false
 is_item k (body_due j) = false
-is_item k (items_due j n) = same_kind_lem j k && ltb 0 n
+is_item k (items_due j n) = same_kind j k && ltb 0 n
 is_item k (parts_due n i) = false
 
 abbrev pub is_identifier : Turn → Bool
