@@ -1,4 +1,6 @@
 // The patch book: at most 256 fixtures, each with its span of channels in a universe, an entry in each of the words that a caller lends.
+#![tactic(auto)]
+
 ghost use Rattle.std.specs.Prelude.{◌+◌, ◌<◌, ◌≤◌, ◌≡◌, false, ◌&&◌, eqb, leb, length, take};
 ghost use Rattle.patching.specs.Entry.{fields, insert};
 ghost use Rattle.patching.specs.Book.{others, ptch, uptc, patch, change, room_in, held, overwrite, answer, taken_in, free_in, entry_at};

@@ -1,4 +1,6 @@
 // The functions of include/citp.h for the patch book: a count, and the words lent with an entry in each. Any values are a book.
+#![tactic(auto)]
+
 ghost use Rattle.std.specs.Prelude.{◌≡◌, length};
 ghost use Rattle.patching.specs.Book.{ptch, uptc, change, answer, held, taken_in, free_in, entry_at};
 ghost use Rattle.channels.specs.Free.{free_of};

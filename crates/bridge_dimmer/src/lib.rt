@@ -1,4 +1,6 @@
 // The functions of include/citp.h for a dimmer rack: its universe, and the levels lent. Any values are a rack.
+#![tactic(auto)]
+
 ghost use Rattle.std.specs.Prelude.{◌≡◌};
 ghost use Rattle.dimming.specs.Levels.{chbk, chls, change, answer};
 

@@ -1,6 +1,8 @@
 // The CAEX layer: shows, fixture lists and laser feeds.
 // A size is at most usize::MAX; its contract has 0 for each number, whose width is fixed.
 // A list is written as its head with the count of its items, then item by item; a count is given wider than its field.
+#![tactic(auto)]
+
 ghost use Rattle.std.specs.Prelude.{◌≡◌};
 ghost use Rattle.format.specs.Format.{number, size};
 ghost use Rattle.format.specs.View.{view, stepped};

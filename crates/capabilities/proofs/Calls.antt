@@ -70,4 +70,4 @@ module _ (capabilities s out : List ℕ) (support : Support)
         → (after : List ℕ) → after ≡ sets (lent ++ out) 0 (offsets_of (lacked_by support) s) → Answers 0 r after
     answers-twice told d h after k f = enough r after (rw as-was at k) (omega (arith, c, d, rw as-was at h)) f
 
-pub ruleset calls = (kit.needs, answers-once, answers-short, answers-none, answers-twice)
+pub ruleset calls = (kit.rules, answers-once, answers-short, answers-none, answers-twice)

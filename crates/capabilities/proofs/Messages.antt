@@ -114,10 +114,10 @@ module _ (s : Support) where
         → b ≡ is_message_of (lacked_by s) (report_says r)
     message-lacked m start added b e h = rw e h
 
-pub ruleset looked = (kit.needs, looking-start, looking-found, looking-on, looking-end)
+pub ruleset looked = (kit.rules, looking-start, looking-found, looking-on, looking-end)
 
-pub ruleset bodies = (kit.needs, refl, sdmx-supported, chls-lacked, sxus-lacked)
+pub ruleset bodies = (kit.rules, refl, sdmx-supported, chls-lacked, sxus-lacked)
 
-pub ruleset layers = (kit.needs, pinf-supported, fptc-supported, fsel-supported, finf-supported, caex-supported, sdmx-lacked)
+pub ruleset layers = (kit.rules, pinf-supported, fptc-supported, fsel-supported, finf-supported, caex-supported, sdmx-lacked)
 
-pub ruleset reports = (kit.needs, message-lacked)
+pub ruleset reports = (kit.rules, message-lacked)

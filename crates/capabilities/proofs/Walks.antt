@@ -91,4 +91,4 @@ module _ (test : Kind → Bool) (s : List ℕ) (x : declared.Step) (c : Cursor) 
     pub walking-all : after ≡ sets before 0 (offsets_of test s)
     walking-all = sym (w.holds ∙ rw (offsets-stop test s c.at stopped) refl)
 
-pub ruleset walks = (kit.needs, walking_start, walking-length, walking-less, walking-pass, walking-take, walking-count, walking-end, walking-all)
+pub ruleset walks = (kit.rules, walking_start, walking-length, walking-less, walking-pass, walking-take, walking-count, walking-end, walking-all)

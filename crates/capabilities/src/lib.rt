@@ -1,5 +1,7 @@
 // The packets of a sender's stream that a receiver does not support, by the capabilities of its last Capa: ChLs without channel lists, Sxus
 // without per-universe external sources.
+#![tactic(auto)]
+
 ghost use Rattle.std.specs.Prelude.{◌≡◌, length, set};
 ghost use Rattle.std.proofs.lemmas.List.Edits.{sets};
 ghost use Rattle.format.specs.Refusals.{is_one_of};

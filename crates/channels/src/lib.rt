@@ -1,4 +1,6 @@
 // The channels of a universe that entries of the patch book hold: eight words of 64 bits, a bit for each.
+#![tactic(auto)]
+
 ghost use Rattle.std.specs.Prelude.{◌≡◌, ℕ, ◌+◌, ◌<◌, ◌≤◌, min, ◌&&◌, [], length, take, nat_le, nat_lt};
 ghost use Rattle.patching.specs.Bits.{pack};
 ghost use Rattle.patching.specs.Book.{taken_at, universe_words, taken_in, free_in};

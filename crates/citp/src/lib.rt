@@ -1,4 +1,6 @@
 // The walk over a stream of packets: one step, its report, and the body that a report speaks of.
+#![tactic(auto)]
+
 ghost use Rattle.std.specs.Prelude.{◌≡◌, ◌-◌, ◌+◌, ◌≤◌, length, take};
 ghost use Rattle.protocol.specs.Layer as layer;
 ghost use Rattle.protocol.specs.Kind.{layer as layerOfKind};

@@ -1,5 +1,7 @@
 // The patch book of a stream from standard input, of at most 65,536 bytes: the patch messages that it refuses, the entries that it holds at
 // the stream's end, the universes that they are in.
+#![tactic(auto)]
+
 use book::{Book, Booked, Entry, Listed};
 use channels::FirstFree;
 use citp::{Cursor, Message, PacketReport, Report, Step};

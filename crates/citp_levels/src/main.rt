@@ -1,5 +1,7 @@
 // citp_levels UNIVERSE: the levels of a universe's 512 channels after a stream from standard input, of at most 65,536 bytes: the channel
 // blocks and channel lists that the rack refuses, then each channel's level at the stream's end.
+#![tactic(auto)]
+
 use citp::{Cursor, Message, PacketReport, Report, Step};
 use dimmer::{CHANNELS, Dimmer};
 use libc::{STDERR_FILENO, STDIN_FILENO, STDOUT_FILENO};

@@ -1,4 +1,6 @@
 // Lists the packets of standard input, of which it reads the first 65,536 bytes.
+#![tactic(auto)]
+
 use libc::{STDIN_FILENO, STDOUT_FILENO};
 use listing::list_from;
 

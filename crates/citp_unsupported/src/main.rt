@@ -1,5 +1,7 @@
 // citp_unsupported RECEIVER SENDER: the packets of a sender's stream that a receiver does not support, by the last Capa of its own stream.
 // Each is a file of at most 65,536 bytes.
+#![tactic(auto)]
+
 use capabilities::{Unsupported, list_unsupported};
 use citp::{Cursor, Message, PacketReport, Report, Step};
 use libc::{STDERR_FILENO, STDOUT_FILENO};

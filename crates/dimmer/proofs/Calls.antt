@@ -69,4 +69,4 @@ pub list-within : (s : List ℕ) (r : ChLsRead) (x : channel-list.ChLs) (c : Cur
     → x.channel_levels.at + x.channel_levels.left * 4 ≤ length s
 list-within s r x c t i = (list-value s (met chls_says t i)).0
 
-pub ruleset needs = (kit.needs, runs, records, list-past, list-clear, list_set, list-within, block-taken, block_refused, list-taken, list-refused)
+pub ruleset needs = (kit.rules, runs, records, list-past, list-clear, list_set, list-within, block-taken, block_refused, list-taken, list-refused)

@@ -1,5 +1,7 @@
 // A dimmer rack of one universe: the levels of its 512 channels, which a caller lends, as the bodies of ChBk and ChLs set them. It knows
 // the packet library by its contracts alone.
+#![tactic(auto)]
+
 ghost use Rattle.std.specs.Prelude.{◌+◌, ◌*◌, ◌≤◌, ◌≡◌, false, length};
 ghost use Rattle.std.proofs.lemmas.List.Edits.{sets};
 ghost use Rattle.format.specs.Fault.{any};

@@ -1,6 +1,8 @@
 // Runs the edges of the scope and of the requests that are not among the proved examples, and those beside them. Standard input has the
 // packets to read, one to a line; what is written, and the stream whose unsupported packets are listed, stand below. The file stdout has
 // what each must give.
+#![tactic(auto)]
+
 ghost use Rattle.std.specs.Prelude.{◌≡◌, ◌≤◌, length};
 
 use capabilities::list_unsupported;

@@ -1,4 +1,6 @@
 // An entry of the patch book in one number: its fields, and the tests on them.
+#![tactic(auto)]
+
 ghost use Rattle.std.specs.Prelude.{◌+◌, ◌*◌, ◌<◌, ◌≡◌};
 ghost use Rattle.patching.specs.Entry.{identifier, universe, channel, channel_count, entry_of, same, shares, before};
 ghost use Rattle.patching.specs.Book.{misfits};

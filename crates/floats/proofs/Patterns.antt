@@ -43,6 +43,7 @@ read-of-pattern x beside f = read-chosen (is_nan x) (nan_bits binary32 beside) x
 
 true-is : (b : Bool) → T b → b ≡ true
 true-is true t = refl
+true-is false t = elim t [ ]
 
 level-self : (s : Bool) (n : ℕ) → (eqb n n && (beq s s || eqb n 0)) ≡ true
 level-self true n = true-is (eqb n n && true) (and_i (eqb n n) true (eqb_refl n) tt)

@@ -1,4 +1,6 @@
 // A float and its 32-bit pattern: at a NaN the pattern beside the float is the value.
+#![tactic(auto)]
+
 ghost use Rattle.std.specs.Prelude.{◌≡◌};
 ghost use Rattle.std.specs.Float.{binary32, nan};
 ghost use Rattle.std.specs.Float.Ieee.{is_nan, nan_bits, of_bits};

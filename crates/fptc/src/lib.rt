@@ -1,5 +1,7 @@
 // The FPTC layer: fixture patch.
 // A size is at most usize::MAX; its contract has 0 for each number, whose width is fixed.
+#![tactic(auto)]
+
 ghost use Rattle.std.specs.Prelude.{◌≡◌};
 ghost use Rattle.format.specs.Format.{size};
 ghost use Rattle.format.specs.View.{view};

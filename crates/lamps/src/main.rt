@@ -1,4 +1,6 @@
 // The lamps of a stream from standard input: for each fixture of its fixture lists a line with its identifier and where it is patched.
+#![tactic(auto)]
+
 use citp::{Cursor, Message, PacketReport, Report, Step};
 use fixture::{Fixture, Fixtures, FixturesNext};
 use libc::{STDIN_FILENO, STDOUT_FILENO};

@@ -1,4 +1,6 @@
 // The six layers: a layer by its cookie, and each layer's figures, which its own crate has.
+#![tactic(auto)]
+
 ghost use Rattle.std.specs.Prelude.{◌≡◌};
 ghost use Rattle.protocol.specs.Layer.{cookie, header_length, has_hint, layer_of};
 ghost use Rattle.layers.specs.Says.{layer_is, layer_says};

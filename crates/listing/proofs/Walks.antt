@@ -78,7 +78,7 @@ module _ {s : List ℕ} {n : ℕ} {x : declared.Step} {c : Cursor} {o o₀ : Lis
 pub walking-length : {from : ℕ} {s o o₀ : List ℕ} {n at p q : ℕ} → Walking from s n at q o p o₀ → length o ≡ length o₀
 walking-length w = w.onto.length-of
 
-pub ruleset needs = (kit.needs, walking-none, walking-less, walking-more, walking-end, walking-length)
+pub ruleset needs = (kit.rules, walking-none, walking-less, walking-more, walking-end, walking-length)
 
 -- ---- a part of the listing
 

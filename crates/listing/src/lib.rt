@@ -1,5 +1,7 @@
 // The listing of a stream of packets. Lent output holds it from a character on, as far as it reaches; each function answers the place
 // behind its text, or the output's end.
+#![tactic(auto)]
+
 ghost use Rattle.std.proofs.Math.Option.{none, some};
 ghost use Rattle.text.specs.Prints.{Prints};
 ghost use Rattle.names.specs.Messages.{message_lines};

@@ -1,5 +1,7 @@
 // The lines of messages of five layers, put at a place of a listing. Lent output holds it from a character on, as far as it reaches;
 // each function answers the place behind its text, or the output's end.
+#![tactic(auto)]
+
 ghost use Rattle.std.specs.Prelude.{◌≡◌, ◌++◌};
 ghost use Rattle.std.proofs.Math.Option.{none, some};
 ghost use Rattle.format.specs.Format.{encode_number};

@@ -52,7 +52,7 @@ find-finds {A} test (x ∷ xs) = by (test x) refl (find-finds test xs)
 
 module _ {A : Type 0} (test : A → Bool) (one : (x y : A) → test x ≡ true → test y ≡ true → x ≡ y) where
   -- it is found
-  find-in : {xs : List A} {x : A} → In x xs → test x ≡ true → find test xs ≡ some x
+  find-in : {x : A} {xs : List A} → In x xs → test x ≡ true → find test xs ≡ some x
   unfolding find
   find-in (here {l = xs}) t = rw t
   find-in {x = x} (there {y = y} {l = xs} i) t = by (test y) refl (find-in i t)

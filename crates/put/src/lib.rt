@@ -1,4 +1,6 @@
 // Writes values at a place of lent output, sizes them, and weighs whether a write is taken.
+#![tactic(auto)]
+
 ghost use Rattle.std.specs.Prelude.{◌+◌, ◌-◌, ◌*◌, ◌≤◌, ◌≡◌, ◌||◌, [], ◌∷◌, length, ltb};
 ghost use Rattle.format.specs.Format.{number, cstring, ucs2, list, encode_number, concat_map, size};
 ghost use Rattle.format.specs.Fault.{has_zero, too_long};

@@ -1,5 +1,7 @@
 // Replays a stored sample of the Rust's answers from standard input (differential/sample makes it): each body is read again, and the fields and
 // bytes taken, or the number of the refusal, are compared with the Rust's answer.
+#![tactic(auto)]
+
 mod answers;
 mod compared;
 

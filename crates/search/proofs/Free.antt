@@ -71,4 +71,4 @@ free-rows {f} m i all = record { rises = omega arith; free = one }
         (all ((k - i) % 16) (omega arith)).free ((k - i) / 16) (omega arith) (subst (λ (x : ℕ). f x ≡ 0) (sym e) z)
 
 -- what `search` is given at the needs of a loop that passes
-pub ruleset needs = (kit.needs, free-none)
+pub ruleset needs = (kit.rules, free-none)

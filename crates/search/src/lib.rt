@@ -1,5 +1,7 @@
 // Where a string ends: its zero byte, or its zero 16-bit unit, found by blocks. A block is folded without a way out, so that the compiler takes
 // many bytes at a time; a hit in a block claims nothing, the bytes are then looked at one by one.
+#![tactic(auto)]
+
 ghost use Rattle.std.specs.Prelude.{◌+◌, ◌*◌, ◌<◌, ◌≤◌, min, ◌≡◌, length, drop, ltb};
 ghost use Rattle.search.specs.Zero.{or_none, before_zero, bytes_to_zero, units_to_zero};
 ghost use Rattle.search.specs.Free.{byte_of, unit_of, Rows, Free, First};

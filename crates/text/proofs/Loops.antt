@@ -105,4 +105,4 @@ units-all {s = s} {i = i} {left = suc left} h a = absurd (omega arith)
 pub units-length : {from : ℕ} {s o o₀ : List ℕ} {n i left p q : ℕ} → Units from s n i left q o p o₀ → length o ≡ length o₀
 units-length a = a.onto.length-of
 
-pub ruleset needs = (kit.needs, each_none, each_more, each_all, each-length, ones-all, units-none, units-more, units-short, units-all, units-length)
+pub ruleset needs = (kit.rules, each_none, each_more, each_all, each-length, ones-all, units-none, units-more, units-short, units-all, units-length)

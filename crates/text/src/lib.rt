@@ -1,5 +1,7 @@
 // What a line of a listing is made of, put at a place of it. Lent output holds the listing from a character on, as far as it reaches;
 // each function answers the place behind its text, or the output's end.
+#![tactic(auto)]
+
 ghost use Rattle.std.specs.Prelude.{◌≡◌, [], ◌∷◌, ◌+◌, ◌*◌, ◌/◌, ◌%◌};
 ghost use Rattle.format.specs.View.{units_of};
 ghost use Rattle.text.specs.Prints.{Prints};

@@ -1,4 +1,6 @@
 // An unpatch: the entries of the identifiers that it lists are dropped from the words lent, and all of them where it lists none.
+#![tactic(auto)]
+
 ghost use Rattle.std.specs.Prelude.{◌≡◌, ◌+◌, ◌*◌, ◌<◌, ◌≤◌, [], ◌∷◌, length};
 ghost use Rattle.format.specs.Fault.{any};
 ghost use Rattle.unpatch.specs.Unpatch.{identifiers_of, listed_at, Stay, Dropped, has_bit, with_bit, lies_in, Offset, marks, found_below};

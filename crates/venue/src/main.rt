@@ -1,5 +1,7 @@
 // Writes the stream of a small rig through the packet writer to standard output: 36 lamps on two trusses and the floor, in two universes,
 // and the two feeds of a laser controller beside them.
+#![tactic(auto)]
+
 use caex::{FixtureListMessageType, LaserPoint};
 use fixture::{FixtureData, FloatBits, IdentifierType};
 use libc::STDOUT_FILENO;

@@ -232,4 +232,4 @@ pub ruleset reading = (
   u32-list-none,
 )
 
-pub ruleset needs = (kit.needs, reading)
+pub ruleset needs = (kit.rules, reading)

@@ -1,4 +1,6 @@
 // The fields of a body, read at a cursor: numbers by value; strings, blocks and lists by their place in the body. Strings and lists of numbers copied out of it.
+#![tactic(auto)]
+
 ghost use Rattle.std.specs.Prelude.{◌+◌, ◌*◌, ◌-◌, ◌≤◌, min, ◌≡◌, ◌++◌, length, take, drop, leb, eqb};
 ghost use Rattle.format.specs.Format.{number, cstring, ucs2, list, pick};
 ghost use Rattle.search.specs.Zero.{none};

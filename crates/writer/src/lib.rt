@@ -1,4 +1,6 @@
 // Writes a packet by turns: open, then a flat body in one call or a list's head and its items one by one, then close.
+#![tactic(auto)]
+
 ghost use Rattle.std.specs.Prelude.{◌≡◌, ◌&&◌, map};
 ghost use Rattle.protocol.specs.Kind as kinds;
 ghost use Rattle.writing.specs.Call.{opens, give, closes, body, laser_feed_list, feed_name, laser_feed_frame, laser_point, fixture_list, fixture, identifier, fixture_data};

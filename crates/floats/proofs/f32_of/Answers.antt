@@ -1,0 +1,12 @@
+use mathlib.Core.Path.{sym, subst, ◌∙◌}
+use mathlib.Core.Bool.{Bool, not}
+use lib.Dec.{T}
+use borrow.Author.Rules.{rules}
+use Rattle.floats.proofs.Patterns.{nan-of-pattern}
+use Rattle.floats.proofs.f32_of.Goals as goal
+
+pub float_from_bits-result : goal.float_from_bits-result
+float_from_bits-result c = subst (λ (b : Bool). T (not b)) (sym c.if-is_nan_pattern.false ∙ c.is_nan_pattern.ensures) tt
+
+pub returns-then-is_nan_pattern : goal.returns-then-is_nan_pattern
+returns-then-is_nan_pattern c = c.nan_value.ensures ∙ sym (nan-of-pattern c.args.pattern (sym c.is_nan_pattern.ensures ∙ c.if-is_nan_pattern.true))

@@ -1,0 +1,12 @@
+use Rattle.search.specs.Free.{unit_of, Free}
+use Rattle.search.proofs.Free.{free-none, free_more, free-to}
+use native.Mathlib.Omega.{arith}
+use mathlib.Core.Path.{sym, ◌∙◌}
+use Prim.Native.Nat.{◌≤◌, ◌-◌}
+use Rattle.search.proofs.first_of_24_units.Given as goal
+
+abbrev pub invariant-loop-j : goal.invariant-loop-j
+invariant-loop-j l = (l.j ≤ 24) × Free (unit_of l.s l.at) 0 l.j
+
+abbrev pub decreases-loop-j : goal.decreases-loop-j
+decreases-loop-j l = 24 - l.j

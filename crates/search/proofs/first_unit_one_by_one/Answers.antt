@@ -1,0 +1,18 @@
+use Rattle.search.specs.Free.{unit_of, Free}
+use Rattle.search.proofs.Free.{free-none, free_more}
+use native.Mathlib.Omega.{arith}
+use mathlib.Core.Path.{sym, ◌∙◌}
+use Prim.Native.Nat.{◌≤◌, ◌-◌}
+use Rattle.search.proofs.first_unit_one_by_one.Goals as goal
+
+pub loop-n-init : goal.loop-n-init
+loop-n-init c = (free-none (omega arith), omega arith)
+
+pub returns-then-unit_at-eq0 : goal.returns-then-unit_at-eq0
+returns-then-unit_at-eq0 c = record { passed = c.loop-n.invariant.0; within = omega arith; ends = λ h. sym c.unit_at.ensures ∙ c.if-unit_at-eq0.true }
+
+pub loop-n-preserved : goal.loop-n-preserved
+loop-n-preserved c = (free_more c.loop-n.invariant.0 (λ e. c.if-unit_at-eq0.false (c.unit_at.ensures ∙ e)) (omega arith), omega arith)
+
+pub returns : goal.returns
+returns c = record { passed = c.loop-n.invariant.0; within = omega arith; ends = λ h. absurd (omega arith) }

@@ -1,0 +1,6 @@
+use Rattle.search.proofs.Free.{rows-least}
+use native.Mathlib.Omega.{arith}
+use Rattle.search.proofs.least_of_16.Goals as goal
+
+pub returns : goal.returns
+returns c = rows-least 8 c.least.ensures c.least_of_8.ensures c.least_of_8-2.ensures

@@ -1,0 +1,16 @@
+use native.Mathlib.Omega.{arith}
+use borrow.Author.Rules.{rules}
+use Rattle.wire.proofs.Numbers.{units-numbers}
+use Rattle.wire.proofs.Copying.{numbers-7, numbers-13, numbers-copied}
+use Rattle.wire.proofs.U16List.copy.Goals as goal
+
+pub returns-then-rest-left : goal.returns-then-rest-left
+returns-then-rest-left c = numbers-7 2 _ _ _ _ (omega arith)
+
+pub returns-then-out-left : goal.returns-then-out-left
+returns-then-out-left c = numbers-13 2 _ _ _ _ (omega arith) c.if-out-left.true
+
+pub returns : goal.returns
+returns c = let a = c.args in
+    let there = units-numbers a.body.now a.self.at a.self.left (omega arith) in
+    numbers-copied 2 _ _ _ _ (omega arith) c.if-out-left.false (rw there at c.copy_units.ensures)

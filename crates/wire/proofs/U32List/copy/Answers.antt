@@ -1,0 +1,13 @@
+use native.Mathlib.Omega.{arith}
+use borrow.Author.Rules.{rules}
+use Rattle.wire.proofs.Copying.{numbers-7, numbers-13}
+use Rattle.wire.proofs.U32List.copy.Goals as goal
+
+pub returns-then-rest-left : goal.returns-then-rest-left
+returns-then-rest-left c = numbers-7 4 _ _ _ _ (omega arith)
+
+pub returns-then-out-left : goal.returns-then-out-left
+returns-then-out-left c = numbers-13 4 _ _ _ _ (omega arith) c.if-out-left.true
+
+pub returns : goal.returns
+returns c = c.copy_u32s.ensures
