@@ -1,0 +1,6 @@
+use borrow.Author.Rules.{rules}
+use Rattle.text.proofs.Texts.{texts}
+use Rattle.text.proofs.put_escaped_units_line.Goals as goal
+
+pub returns : goal.returns
+returns c = search texts

@@ -1,7 +1,0 @@
-use borrow.Author.Rules.{rules}
-use Rattle.text.proofs.Texts.{texts}
-use Rattle.text.proofs.put_escaped_units_line.Statement.{statement}
-use Rattle.text.proofs.put_escaped_units_line.Tie as tie
-
-pub put-escaped-units-line-spec : {M : Type 1} → statement M
-put-escaped-units-line-spec = tie.close (tie.spec (λ c κs. tt) (λ c κs. tt) (λ c κs. tt) (λ c. search rules) (λ c. search texts))
