@@ -16,7 +16,7 @@ use fptc::{Ptch, PtchRead, UPtc, UPtcRead};
 use unpatch::drop_listed;
 
 // A fixture's span of channels in a universe, counted from 0.
-#[derive(Drop)]
+#[derive(Clone, Copy)]
 pub struct Entry {
     pub fixture_identifier: u16,
     pub universe: u16,
@@ -25,20 +25,20 @@ pub struct Entry {
 }
 
 // How many of the words lent are entries.
-#[derive(Drop)]
+#[derive(Clone, Copy)]
 pub struct Book {
     pub count: usize,
 }
 
 // A message's number, 0 where it is taken, and the book after it.
-#[derive(Drop)]
+#[derive(Clone, Copy)]
 pub struct Booked {
     pub number: u8,
     pub book: Book,
 }
 
 // An entry of the listing, or that there are no more.
-#[derive(Drop)]
+#[derive(Clone, Copy)]
 pub enum Listed {
     Item(Entry),
     Done,
@@ -60,7 +60,7 @@ fn fields_of(entry: u64) -> Entry
 
 // Whether another fixture holds one of its channels; where its own fixture's entry stands, the last if there are several and the end if
 // there is none; how many there are; and how far the search got.
-#[derive(Drop)]
+#[derive(Clone, Copy)]
 struct Compared {
     clash: bool,
     own_at: usize,
@@ -146,7 +146,7 @@ fn meet_behind(entries: &[u64], entry: u64, ahead: Compared) -> Compared
 // ---- an entry put in its place
 
 // What is to be done for a patch: the entries of its fixture that are replaced, and how many of other fixtures stay ahead of it.
-#[derive(Drop)]
+#[derive(Clone, Copy)]
 struct Found {
     clash: bool,
     own_at: usize,

@@ -17,7 +17,7 @@ use wire::{CString, Copied, U16List, U16Next, U32List, U32Next, Ucs2, copy_cstri
 // ---- numbers
 
 #[repr(C)]
-#[derive(Drop)]
+#[derive(Clone, Copy)]
 pub struct U16Answer {
     pub number: u8,
     pub given: u8,
@@ -57,7 +57,7 @@ pub extern "C" fn citp_u16_list_next(body: &[u8], at: usize, left: u16) -> U16An
 }
 
 #[repr(C)]
-#[derive(Drop)]
+#[derive(Clone, Copy)]
 pub struct U32Answer {
     pub number: u8,
     pub given: u8,
@@ -99,7 +99,7 @@ pub extern "C" fn citp_u32_list_next(body: &[u8], at: usize, left: u16) -> U32An
 // ---- channel levels
 
 #[repr(C)]
-#[derive(Drop)]
+#[derive(Clone, Copy)]
 pub struct ChannelLevelAnswer {
     pub number: u8,
     pub given: u8,
@@ -145,7 +145,7 @@ pub extern "C" fn citp_channel_levels_next(body: &[u8], at: usize, left: u16) ->
 // ---- identifiers
 
 #[repr(C)]
-#[derive(Drop)]
+#[derive(Clone, Copy)]
 pub struct IdentifierAnswer {
     pub number: u8,
     pub given: u8,
@@ -196,7 +196,7 @@ pub extern "C" fn citp_identifiers_next(body: &[u8], at: usize, left: u8) -> Ide
 // ---- fixtures
 
 #[repr(C)]
-#[derive(Drop)]
+#[derive(Clone, Copy)]
 pub struct FixtureAnswer {
     pub number: u8,
     pub given: u8,
@@ -295,7 +295,7 @@ pub extern "C" fn citp_fixtures_next(body: &[u8], at: usize, left: u16) -> Fixtu
 // ---- feed names
 
 #[repr(C)]
-#[derive(Drop)]
+#[derive(Clone, Copy)]
 pub struct FeedNameAnswer {
     pub number: u8,
     pub given: u8,
@@ -340,7 +340,7 @@ pub extern "C" fn citp_feed_names_next(body: &[u8], at: usize, left: u8) -> Feed
 // ---- laser points
 
 #[repr(C)]
-#[derive(Drop)]
+#[derive(Clone, Copy)]
 pub struct LaserPointAnswer {
     pub number: u8,
     pub given: u8,
@@ -387,7 +387,7 @@ pub extern "C" fn citp_laser_points_next(body: &[u8], at: usize, left: u16) -> L
 // ---- copies
 
 #[repr(C)]
-#[derive(Drop)]
+#[derive(Clone, Copy)]
 pub struct CopyAnswer {
     pub number: u8,
     pub len: usize,

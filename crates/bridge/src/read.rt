@@ -26,7 +26,7 @@ use wire::CString;
 
 // A body that is one string.
 #[repr(C)]
-#[derive(Drop)]
+#[derive(Clone, Copy)]
 pub struct StringBody {
     pub number: u8,
     pub taken: usize,
@@ -60,7 +60,7 @@ impl StringBody {
 
 // A body that is one list.
 #[repr(C)]
-#[derive(Drop)]
+#[derive(Clone, Copy)]
 pub struct ListBody {
     pub number: u8,
     pub left: u16,
@@ -94,7 +94,7 @@ impl ListBody {
 
 // UNam with the universe's name; Sxus with the connection string.
 #[repr(C)]
-#[derive(Drop)]
+#[derive(Clone, Copy)]
 pub struct UniverseStringBody {
     pub number: u8,
     pub universe_index: u8,
@@ -130,7 +130,7 @@ impl UniverseStringBody {
 }
 
 #[repr(C)]
-#[derive(Drop)]
+#[derive(Clone, Copy)]
 pub struct HeaderAnswer {
     pub number: u8,
     pub version_major: u8,
@@ -187,7 +187,7 @@ pub extern "C" fn citp_enter_show_read(body: &[u8]) -> StringBody
 }
 
 #[repr(C)]
-#[derive(Drop)]
+#[derive(Clone, Copy)]
 pub struct FixtureListBody {
     pub number: u8,
     pub message_type: u8,
@@ -236,7 +236,7 @@ pub extern "C" fn citp_fixture_remove_read(body: &[u8]) -> ListBody
 }
 
 #[repr(C)]
-#[derive(Drop)]
+#[derive(Clone, Copy)]
 pub struct LaserFeedControlBody {
     pub number: u8,
     pub feed_index: u8,
@@ -265,7 +265,7 @@ pub extern "C" fn citp_laser_feed_control_read(body: &[u8]) -> LaserFeedControlB
 }
 
 #[repr(C)]
-#[derive(Drop)]
+#[derive(Clone, Copy)]
 pub struct LaserFeedListBody {
     pub number: u8,
     pub feed_names_left: u8,
@@ -297,7 +297,7 @@ pub extern "C" fn citp_laser_feed_list_read(body: &[u8]) -> LaserFeedListBody
 }
 
 #[repr(C)]
-#[derive(Drop)]
+#[derive(Clone, Copy)]
 pub struct LaserFeedFrameBody {
     pub number: u8,
     pub feed_index: u8,
@@ -355,7 +355,7 @@ pub extern "C" fn citp_unam_read(body: &[u8]) -> UniverseStringBody
 }
 
 #[repr(C)]
-#[derive(Drop)]
+#[derive(Clone, Copy)]
 pub struct ChBkBody {
     pub number: u8,
     pub blind: u8,
@@ -413,7 +413,7 @@ pub extern "C" fn citp_sxus_read(body: &[u8]) -> UniverseStringBody
 }
 
 #[repr(C)]
-#[derive(Drop)]
+#[derive(Clone, Copy)]
 pub struct PtchBody {
     pub number: u8,
     pub universe: u8,
@@ -491,7 +491,7 @@ pub extern "C" fn citp_sptc_read(body: &[u8]) -> ListBody
 }
 
 #[repr(C)]
-#[derive(Drop)]
+#[derive(Clone, Copy)]
 pub struct SeleBody {
     pub number: u8,
     pub complete: u8,
@@ -554,7 +554,7 @@ pub extern "C" fn citp_sfra_read(body: &[u8]) -> ListBody
 }
 
 #[repr(C)]
-#[derive(Drop)]
+#[derive(Clone, Copy)]
 pub struct FramBody {
     pub number: u8,
     pub frame_filter_count: u8,
@@ -602,7 +602,7 @@ pub extern "C" fn citp_pnam_read(body: &[u8]) -> StringBody
 }
 
 #[repr(C)]
-#[derive(Drop)]
+#[derive(Clone, Copy)]
 pub struct PLocBody {
     pub number: u8,
     pub listening_tcp_port: u16,

@@ -12,7 +12,7 @@ use channels::FirstFree;
 
 // The number of a message, 0 where it is taken, and the count after it.
 #[repr(C)]
-#[derive(Drop)]
+#[derive(Clone, Copy)]
 pub struct BookAnswer {
     pub number: u8,
     pub count: usize,
@@ -57,7 +57,7 @@ pub extern "C" fn citp_book_entries(count: usize, entries: &[u64]) -> usize
 
 // `given` is 1 with an entry; else the other fields are 0.
 #[repr(C)]
-#[derive(Drop)]
+#[derive(Clone, Copy)]
 pub struct EntryAnswer {
     pub given: u8,
     pub fixture_identifier: u16,

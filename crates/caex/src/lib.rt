@@ -28,7 +28,7 @@ use wire::{
 };
 
 // The layer: its cookie, and the length of its headers with the base header.
-#[derive(Drop)]
+#[derive(Clone, Copy)]
 pub struct Caex;
 
 impl Caex {
@@ -40,12 +40,12 @@ impl Caex {
 // ---- shows
 
 // A show was opened, or is to be synchronized.
-#[derive(Drop)]
+#[derive(Clone, Copy)]
 pub struct EnterShow {
     pub name: Ucs2,
 }
 
-#[derive(Drop)]
+#[derive(Clone, Copy)]
 pub enum EnterShowRead {
     Read(EnterShow, Cursor),
     Refused(u8),
@@ -88,14 +88,14 @@ impl EnterShow {
 
 // ---- lists of fixtures
 
-#[derive(Drop)]
+#[derive(Clone, Copy)]
 pub enum FixtureListMessageType {
     ExistingPatchList,
     NewFixture,
     ExchangeFixture,
 }
 
-#[derive(Drop)]
+#[derive(Clone, Copy)]
 pub enum FixtureListMessageTypeRead {
     Read(FixtureListMessageType),
     // 9
@@ -126,13 +126,13 @@ impl FixtureListMessageType {
 }
 
 // Fixtures: all that are known, or those that were added, or exchanged for others. A list is a message only if all of it reads.
-#[derive(Drop)]
+#[derive(Clone, Copy)]
 pub struct FixtureList {
     pub message_type: FixtureListMessageType,
     pub fixtures: Fixtures,
 }
 
-#[derive(Drop)]
+#[derive(Clone, Copy)]
 pub enum FixtureListRead {
     Read(FixtureList, Cursor),
     Refused(u8),
@@ -198,12 +198,12 @@ impl FixtureList {
 }
 
 // Fixtures that were removed.
-#[derive(Drop)]
+#[derive(Clone, Copy)]
 pub struct FixtureRemove {
     pub fixture_identifiers: U32List,
 }
 
-#[derive(Drop)]
+#[derive(Clone, Copy)]
 pub enum FixtureRemoveRead {
     Read(FixtureRemove, Cursor),
     Refused(u8),
@@ -256,7 +256,7 @@ impl FixtureRemove {
 // ---- laser feeds
 
 // Whether a laser feed is to be sent.
-#[derive(Drop)]
+#[derive(Clone, Copy)]
 pub struct LaserFeedControl {
     // 0-based
     pub feed_index: u8,
@@ -264,7 +264,7 @@ pub struct LaserFeedControl {
     pub frame_rate: u8,
 }
 
-#[derive(Drop)]
+#[derive(Clone, Copy)]
 pub enum LaserFeedControlRead {
     Read(LaserFeedControl, Cursor),
     Refused(u8),
@@ -313,14 +313,14 @@ impl LaserFeedControl {
 }
 
 // The laser feeds of a source.
-#[derive(Drop)]
+#[derive(Clone, Copy)]
 pub struct LaserFeedList {
     // that of its frames
     pub source_key: u32,
     pub feed_names: FeedNames,
 }
 
-#[derive(Drop)]
+#[derive(Clone, Copy)]
 pub enum LaserFeedListRead {
     Read(LaserFeedList, Cursor),
     Refused(u8),
@@ -384,14 +384,14 @@ impl LaserFeedList {
 }
 
 // What is left of a list of feed names.
-#[derive(Drop)]
+#[derive(Clone, Copy)]
 pub struct FeedNames {
     pub at: usize,
     pub left: u8,
 }
 
 // A step through a list: an item and what is left behind it. A list that was read meets no refusal, a made-up one may.
-#[derive(Drop)]
+#[derive(Clone, Copy)]
 pub enum FeedNamesNext {
     Item(Ucs2, FeedNames),
     Done,
@@ -442,7 +442,7 @@ impl FeedNames {
 }
 
 // A frame of a laser feed.
-#[derive(Drop)]
+#[derive(Clone, Copy)]
 pub struct LaserFeedFrame {
     // as in LaserFeedList
     pub source_key: u32,
@@ -453,7 +453,7 @@ pub struct LaserFeedFrame {
     pub points: LaserPoints,
 }
 
-#[derive(Drop)]
+#[derive(Clone, Copy)]
 pub enum LaserFeedFrameRead {
     Read(LaserFeedFrame, Cursor),
     Refused(u8),
@@ -524,7 +524,7 @@ impl LaserFeedFrame {
 
 // A point of a frame.
 #[repr(C)]
-#[derive(Drop)]
+#[derive(Clone, Copy)]
 pub struct LaserPoint {
     pub x_low_byte: u8,
     pub y_low_byte: u8,
@@ -534,7 +534,7 @@ pub struct LaserPoint {
     pub color: u16,
 }
 
-#[derive(Drop)]
+#[derive(Clone, Copy)]
 enum LaserPointRead {
     Read(LaserPoint, Cursor),
     Short,
@@ -593,13 +593,13 @@ impl LaserPoint {
 }
 
 // What is left of a list of points.
-#[derive(Drop)]
+#[derive(Clone, Copy)]
 pub struct LaserPoints {
     pub at: usize,
     pub left: u16,
 }
 
-#[derive(Drop)]
+#[derive(Clone, Copy)]
 pub enum LaserPointsNext {
     Item(LaserPoint, LaserPoints),
     Done,
@@ -631,7 +631,7 @@ impl LaserPoints {
 // ---- messages
 
 // A message of one kind.
-#[derive(Drop)]
+#[derive(Clone, Copy)]
 pub enum Message {
     EnterShow(EnterShow),
     FixtureList(FixtureList),
@@ -642,7 +642,7 @@ pub enum Message {
 }
 
 // A message with the cursor behind its body; a content type of no kind that is read; a body that cannot be read.
-#[derive(Drop)]
+#[derive(Clone, Copy)]
 pub enum MessageRead {
     Read(Message, Cursor),
     Unknown,

@@ -16,7 +16,7 @@ use sdmx::Capa;
 
 // ---- what a receiver supports
 
-#[derive(Drop)]
+#[derive(Clone, Copy)]
 struct Support {
     channel_lists: bool,
     external_sources: bool,
@@ -97,7 +97,7 @@ fn store(offsets: &mut [usize], n: usize, offset: usize)
 }
 
 // What a walk finds: how many offsets, and the number of its end.
-#[derive(Drop)]
+#[derive(Clone, Copy)]
 struct Found {
     count: usize,
     stop: u8,
@@ -135,7 +135,7 @@ fn walk(offsets: &mut [usize], s: &[u8], support: Support) -> Found
 // ---- the call
 
 // The number of the call, 0 or 13; how many offsets there are; and the number with which the walk ends, 0 at the stream's end.
-#[derive(Drop)]
+#[derive(Clone, Copy)]
 pub struct Unsupported {
     pub number: u8,
     pub count: usize,

@@ -10,7 +10,7 @@ ghost use Rattle.channels.specs.Offset.{Offset};
 use entries::{channel_count, place};
 
 // The first free channel of a universe, or that none is free.
-#[derive(Drop)]
+#[derive(Clone, Copy)]
 pub enum FirstFree {
     Channel(u16),
     NoneFree,

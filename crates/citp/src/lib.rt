@@ -26,7 +26,7 @@ use wire::{Block, U32Read};
 // ---- reports
 
 // A message of one kind of a layer; in FPTC with its content hint.
-#[derive(Drop)]
+#[derive(Clone, Copy)]
 pub enum Message {
     Pinf(pinf::Message),
     Sdmx(sdmx::Message),
@@ -37,7 +37,7 @@ pub enum Message {
 }
 
 // What a packet holds.
-#[derive(Drop)]
+#[derive(Clone, Copy)]
 pub enum Report {
     // the offset of its body in the stream, and the count of added bytes
     Message(Message, usize, usize),
@@ -52,7 +52,7 @@ pub enum Report {
 }
 
 // A packet's offset in the stream, its size, its request_index and what it holds.
-#[derive(Drop)]
+#[derive(Clone, Copy)]
 pub struct PacketReport {
     pub offset: usize,
     pub size: u32,
@@ -61,13 +61,13 @@ pub struct PacketReport {
 }
 
 // Where the next packet starts in the stream.
-#[derive(Drop)]
+#[derive(Clone, Copy)]
 pub struct Cursor {
     pub at: usize,
 }
 
 // A report and the cursor of the next packet; or the end, its number, 0 at the stream's end, and its offset.
-#[derive(Drop)]
+#[derive(Clone, Copy)]
 pub enum Step {
     Packet(PacketReport, Cursor),
     End(u8, usize),
@@ -177,14 +177,14 @@ fn caex_report(content_type: u32, end: usize, body: &[u8]) -> Report
 
 // ---- the layer header
 
-#[derive(Drop)]
+#[derive(Clone, Copy)]
 struct LayerHeader {
     content_type: u32,
     // 0 in a layer that has none
     content_hint: u32,
 }
 
-#[derive(Drop)]
+#[derive(Clone, Copy)]
 enum LayerHeaderRead {
     Read(LayerHeader, wire::Cursor),
     Short,

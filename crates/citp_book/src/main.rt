@@ -167,7 +167,7 @@ fn walk(s: &[u8], entries: &mut [u64]) {
 // ---- the input
 
 // How many bytes were read, or that a read failed.
-#[derive(Drop)]
+#[derive(Clone, Copy)]
 enum Input {
     Bytes(usize),
     Failed,

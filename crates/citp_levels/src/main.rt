@@ -123,7 +123,7 @@ fn walk(s: &[u8], universe_index: u8, levels: &mut [u8; 512]) {
 // ---- the input
 
 // How many bytes were read, or that a read failed.
-#[derive(Drop)]
+#[derive(Clone, Copy)]
 enum Input {
     Bytes(usize),
     Failed,
@@ -149,7 +149,7 @@ fn read_input(buf: &mut [u8]) -> Input {
 // ---- the argument
 
 // The universe that an argument names, or that it names none.
-#[derive(Drop)]
+#[derive(Clone, Copy)]
 enum Universe {
     Index(u8),
     None,

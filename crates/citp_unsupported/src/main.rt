@@ -71,7 +71,7 @@ fn is_refused(p: PacketReport) -> bool {
 }
 
 // How many capabilities the last Capa of a stream has, and whether all of the stream was read.
-#[derive(Drop)]
+#[derive(Clone, Copy)]
 struct Receiver {
     count: usize,
     whole: bool,
@@ -105,7 +105,7 @@ fn read_capabilities(s: &[u8], numbers: &mut [u16]) -> Receiver {
 // ---- the files
 
 // How many bytes were read, or that a read failed.
-#[derive(Drop)]
+#[derive(Clone, Copy)]
 enum Input {
     Bytes(usize),
     Failed,

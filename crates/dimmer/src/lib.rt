@@ -17,7 +17,7 @@ use sdmx::{ChBk, ChBkRead, ChLs, ChLsRead, ChannelLevel, ChannelLevels, ChannelL
 pub const CHANNELS: usize = 512;
 
 // The universe that the rack listens to, counted from 0.
-#[derive(Drop)]
+#[derive(Clone, Copy)]
 pub struct Dimmer {
     pub universe_index: u8,
 }

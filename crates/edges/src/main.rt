@@ -126,7 +126,7 @@ fn read(s: &[u8]) {
 // ---- the lines of standard input
 
 // A line so far: behind `=` a packet in hexadecimal.
-#[derive(Drop)]
+#[derive(Clone, Copy)]
 struct Line {
     packet: [u8; 600],
     digits: usize,

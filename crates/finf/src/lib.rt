@@ -17,7 +17,7 @@ use put::{
 use wire::{CString, CStringRead, Cursor, U8Read, U16List, U16ListRead, U16Read};
 
 // The layer: its cookie, and the length of its headers with the base header.
-#[derive(Drop)]
+#[derive(Clone, Copy)]
 pub struct Finf;
 
 impl Finf {
@@ -27,12 +27,12 @@ impl Finf {
 }
 
 // Send frames: asks for the frames of the fixtures named.
-#[derive(Drop)]
+#[derive(Clone, Copy)]
 pub struct SFra {
     pub fixture_identifiers: U16List,
 }
 
-#[derive(Drop)]
+#[derive(Clone, Copy)]
 pub enum SFraRead {
     Read(SFra, Cursor),
     Refused(u8),
@@ -77,7 +77,7 @@ impl SFra {
 }
 
 // Frames: the filters and gobos of a fixture.
-#[derive(Drop)]
+#[derive(Clone, Copy)]
 pub struct Fram {
     pub fixture_identifier: u16,
     pub frame_filter_count: u8,
@@ -86,7 +86,7 @@ pub struct Fram {
     pub frame_names: CString,
 }
 
-#[derive(Drop)]
+#[derive(Clone, Copy)]
 pub enum FramRead {
     Read(Fram, Cursor),
     Refused(u8),
@@ -157,14 +157,14 @@ impl Fram {
 }
 
 // A message of one kind.
-#[derive(Drop)]
+#[derive(Clone, Copy)]
 pub enum Message {
     SFra(SFra),
     Fram(Fram),
 }
 
 // A message with the cursor behind its body; a content type of no kind that is read; a body that cannot be read.
-#[derive(Drop)]
+#[derive(Clone, Copy)]
 pub enum MessageRead {
     Read(Message, Cursor),
     Unknown,

@@ -17,7 +17,7 @@ use put::{
 use wire::{CString, CStringRead, Cursor, NAME_LIMIT, U8Read, U16List, U16ListRead, U16Read};
 
 // The layer: its cookie, and the length of its headers with the base header.
-#[derive(Drop)]
+#[derive(Clone, Copy)]
 pub struct Fptc;
 
 impl Fptc {
@@ -27,7 +27,7 @@ impl Fptc {
 }
 
 // Patch: a fixture that is introduced or repatched.
-#[derive(Drop)]
+#[derive(Clone, Copy)]
 pub struct Ptch {
     pub fixture_identifier: u16,
     // 0-based
@@ -43,7 +43,7 @@ pub struct Ptch {
     pub fixture_name: CString,
 }
 
-#[derive(Drop)]
+#[derive(Clone, Copy)]
 pub enum PtchRead {
     Read(Ptch, Cursor),
     Refused(u8),
@@ -163,12 +163,12 @@ impl Ptch {
 }
 
 // Unpatch: the fixtures that are unpatched; with none named, all of them.
-#[derive(Drop)]
+#[derive(Clone, Copy)]
 pub struct UPtc {
     pub fixture_identifiers: U16List,
 }
 
-#[derive(Drop)]
+#[derive(Clone, Copy)]
 pub enum UPtcRead {
     Read(UPtc, Cursor),
     Refused(u8),
@@ -213,12 +213,12 @@ impl UPtc {
 }
 
 // Send patch: asks for the patch of the fixtures named; with none named, for all of it.
-#[derive(Drop)]
+#[derive(Clone, Copy)]
 pub struct SPtc {
     pub fixture_identifiers: U16List,
 }
 
-#[derive(Drop)]
+#[derive(Clone, Copy)]
 pub enum SPtcRead {
     Read(SPtc, Cursor),
     Refused(u8),
@@ -263,7 +263,7 @@ impl SPtc {
 }
 
 // A message of one kind.
-#[derive(Drop)]
+#[derive(Clone, Copy)]
 pub enum Message {
     Ptch(Ptch),
     UPtc(UPtc),
@@ -271,7 +271,7 @@ pub enum Message {
 }
 
 // A message with the cursor behind its body; a content type of no kind that is read; a body that cannot be read.
-#[derive(Drop)]
+#[derive(Clone, Copy)]
 pub enum MessageRead {
     Read(Message, Cursor),
     Unknown,

@@ -14,7 +14,7 @@ use put::{Put, more, put_u8, put_u16_list, u16_list_size, u16_list_too_long, wei
 use wire::{Cursor, U8Read, U16List, U16ListRead};
 
 // The layer: its cookie, and the length of its headers with the base header.
-#[derive(Drop)]
+#[derive(Clone, Copy)]
 pub struct Fsel;
 
 impl Fsel {
@@ -24,7 +24,7 @@ impl Fsel {
 }
 
 // Select: the fixtures to select.
-#[derive(Drop)]
+#[derive(Clone, Copy)]
 pub struct Sele {
     // nonzero: all other fixtures are deselected
     pub complete: u8,
@@ -33,7 +33,7 @@ pub struct Sele {
     pub fixture_identifiers: U16List,
 }
 
-#[derive(Drop)]
+#[derive(Clone, Copy)]
 pub enum SeleRead {
     Read(Sele, Cursor),
     Refused(u8),
@@ -94,12 +94,12 @@ impl Sele {
 }
 
 // Deselect: the fixtures to deselect, with none named all of them.
-#[derive(Drop)]
+#[derive(Clone, Copy)]
 pub struct DeSe {
     pub fixture_identifiers: U16List,
 }
 
-#[derive(Drop)]
+#[derive(Clone, Copy)]
 pub enum DeSeRead {
     Read(DeSe, Cursor),
     Refused(u8),
@@ -144,14 +144,14 @@ impl DeSe {
 }
 
 // A message of one kind.
-#[derive(Drop)]
+#[derive(Clone, Copy)]
 pub enum Message {
     Sele(Sele),
     DeSe(DeSe),
 }
 
 // A message with the cursor behind its body; a content type of no kind that is read; a body that cannot be read.
-#[derive(Drop)]
+#[derive(Clone, Copy)]
 pub enum MessageRead {
     Read(Message, Cursor),
     Unknown,

@@ -13,7 +13,7 @@ use header::Header;
 use pinf::Pinf;
 use sdmx::Sdmx;
 
-#[derive(Drop)]
+#[derive(Clone, Copy)]
 pub enum Layer {
     Pinf,
     Sdmx,
@@ -23,7 +23,7 @@ pub enum Layer {
     Caex,
 }
 
-#[derive(Drop)]
+#[derive(Clone, Copy)]
 pub enum LayerFound {
     Known(Layer),
     Unknown,

@@ -26,7 +26,7 @@ pub const OLD_MULTICAST_ADDR: [u8; 4] = [224, 0, 0, 180];
 pub const MULTICAST_ADDR: [u8; 4] = [239, 224, 0, 180];
 
 // The layer: its cookie, and the length of its headers with the base header.
-#[derive(Drop)]
+#[derive(Clone, Copy)]
 pub struct Pinf;
 
 impl Pinf {
@@ -36,12 +36,12 @@ impl Pinf {
 }
 
 // Peer name: a display name of the peer.
-#[derive(Drop)]
+#[derive(Clone, Copy)]
 pub struct PNam {
     pub name: CString,
 }
 
-#[derive(Drop)]
+#[derive(Clone, Copy)]
 pub enum PNamRead {
     Read(PNam, Cursor),
     Refused(u8),
@@ -83,7 +83,7 @@ impl PNam {
 }
 
 // Peer location: where and how a peer can be reached.
-#[derive(Drop)]
+#[derive(Clone, Copy)]
 pub struct PLoc {
     // 0 if the peer is not listening
     pub listening_tcp_port: u16,
@@ -94,7 +94,7 @@ pub struct PLoc {
     pub state: CString,
 }
 
-#[derive(Drop)]
+#[derive(Clone, Copy)]
 pub enum PLocRead {
     Read(PLoc, Cursor),
     Refused(u8),
@@ -194,14 +194,14 @@ impl PLoc {
 }
 
 // A message of one kind.
-#[derive(Drop)]
+#[derive(Clone, Copy)]
 pub enum Message {
     PNam(PNam),
     PLoc(PLoc),
 }
 
 // A message with the cursor behind its body; a content type of no kind that is read; a body that cannot be read.
-#[derive(Drop)]
+#[derive(Clone, Copy)]
 pub enum MessageRead {
     Read(Message, Cursor),
     Unknown,

@@ -8,7 +8,7 @@ use floats::pattern_of;
 
 // Floats by their bits.
 #[repr(C)]
-#[derive(Drop)]
+#[derive(Clone, Copy)]
 pub struct FixtureNumbers {
     pub patched: u8,
     pub universe: u8,

@@ -13,7 +13,7 @@ ghost use Rattle.plain.specs.Report.{or_zero, packet_step, flat_report, end_step
 use citp::{Message, PacketReport, Report, Step, body_place};
 
 #[repr(C)]
-#[derive(Drop)]
+#[derive(Clone, Copy)]
 pub struct StepAnswer {
     // 0 the end, 1 message, 2 unknown layer, 3 unknown kind, 4 fragment, 5 refused
     pub report: u8,

@@ -8,7 +8,7 @@ use turns::{Kind, Turn};
 use writer::{Writer, Written};
 
 #[repr(C)]
-#[derive(Drop)]
+#[derive(Clone, Copy)]
 pub struct WriterState {
     // 0 idle, 1 body, 2 items, 3 parts of a fixture
     pub turn: u8,
@@ -21,13 +21,13 @@ pub struct WriterState {
 
 // The state stands first: a caller hands it on as it came.
 #[repr(C)]
-#[derive(Drop)]
+#[derive(Clone, Copy)]
 pub struct WriterAnswer {
     pub writer: WriterState,
     pub number: u8,
 }
 
-#[derive(Drop)]
+#[derive(Clone, Copy)]
 pub enum KindFound {
     Known(Kind),
     Unknown,

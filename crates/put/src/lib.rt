@@ -11,7 +11,7 @@ pub const LIMIT: usize = 16_777_216;
 
 // What a body's writer answers: 0 or the number of the refusal, and the place behind what was written.
 #[repr(C)]
-#[derive(Drop)]
+#[derive(Clone, Copy)]
 pub struct Put {
     pub number: u8,
     pub at: usize,

@@ -14,7 +14,7 @@ use sdmx::{Capa, CapaRead, ChBk, ChBkRead, ChLs, ChLsRead, Sxus, SxusRead, UNam,
 use wire::Cursor;
 
 // The number of the refusal, 0 where the body was read, and then the comparison.
-#[derive(Drop)]
+#[derive(Clone, Copy)]
 pub(crate) struct Answer {
     pub(crate) number: u8,
     pub(crate) compared: Compared,

@@ -8,7 +8,7 @@ use sdmx::{ChannelLevel, ChannelLevels, ChannelLevelsNext};
 use wire::{Block, CString, Cursor, U16List, U16Next, U16Read, U32List, U32Next, Ucs2};
 
 // So many bytes are compared, and whether all were the same.
-#[derive(Drop)]
+#[derive(Clone, Copy)]
 pub(crate) struct Compared {
     pub(crate) at: usize,
     pub(crate) same: bool,

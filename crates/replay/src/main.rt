@@ -12,7 +12,7 @@ use libc::{STDIN_FILENO, STDOUT_FILENO};
 use wire::Block;
 
 // The bodies that were read, that were refused, and whose answer is not the one that is due.
-#[derive(Drop)]
+#[derive(Clone, Copy)]
 struct Tally {
     read: u64,
     refused: u64,
@@ -132,7 +132,7 @@ fn record_length() -> usize {
 }
 
 // The tally with one record more, and whether there was one.
-#[derive(Drop)]
+#[derive(Clone, Copy)]
 struct Replayed {
     tally: Tally,
     more: bool,

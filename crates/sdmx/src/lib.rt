@@ -21,7 +21,7 @@ use wire::{
 };
 
 // The layer: its cookie, and the length of its headers with the base header.
-#[derive(Drop)]
+#[derive(Clone, Copy)]
 pub struct Sdmx;
 
 impl Sdmx {
@@ -31,12 +31,12 @@ impl Sdmx {
 }
 
 // Capabilities of the sender.
-#[derive(Drop)]
+#[derive(Clone, Copy)]
 pub struct Capa {
     pub capabilities: U16List,
 }
 
-#[derive(Drop)]
+#[derive(Clone, Copy)]
 pub enum CapaRead {
     Read(Capa, Cursor),
     Refused(u8),
@@ -91,14 +91,14 @@ impl Capa {
 }
 
 // Universe name.
-#[derive(Drop)]
+#[derive(Clone, Copy)]
 pub struct UNam {
     // 0-based
     pub universe_index: u8,
     pub universe_name: CString,
 }
 
-#[derive(Drop)]
+#[derive(Clone, Copy)]
 pub enum UNamRead {
     Read(UNam, Cursor),
     Refused(u8),
@@ -155,7 +155,7 @@ impl UNam {
 }
 
 // Channel block: levels of consecutive channels.
-#[derive(Drop)]
+#[derive(Clone, Copy)]
 pub struct ChBk {
     // 1 for blind preview, 0 otherwise; not enforced
     pub blind: u8,
@@ -166,7 +166,7 @@ pub struct ChBk {
     pub channel_levels: Block,
 }
 
-#[derive(Drop)]
+#[derive(Clone, Copy)]
 pub enum ChBkRead {
     Read(ChBk, Cursor),
     Refused(u8),
@@ -234,7 +234,7 @@ impl ChBk {
 
 // A record of a channel list.
 #[repr(C)]
-#[derive(Drop)]
+#[derive(Clone, Copy)]
 pub struct ChannelLevel {
     // 0-based
     pub universe_index: u8,
@@ -243,7 +243,7 @@ pub struct ChannelLevel {
     pub channel_level: u8,
 }
 
-#[derive(Drop)]
+#[derive(Clone, Copy)]
 enum ChannelLevelRead {
     Read(ChannelLevel, Cursor),
     Short,
@@ -277,13 +277,13 @@ impl ChannelLevel {
 }
 
 // What is left of a list of records.
-#[derive(Drop)]
+#[derive(Clone, Copy)]
 pub struct ChannelLevels {
     pub at: usize,
     pub left: u16,
 }
 
-#[derive(Drop)]
+#[derive(Clone, Copy)]
 pub enum ChannelLevelsNext {
     Item(ChannelLevel, ChannelLevels),
     Done,
@@ -313,12 +313,12 @@ impl ChannelLevels {
 }
 
 // Channel list: levels of single channels.
-#[derive(Drop)]
+#[derive(Clone, Copy)]
 pub struct ChLs {
     pub channel_levels: ChannelLevels,
 }
 
-#[derive(Drop)]
+#[derive(Clone, Copy)]
 pub enum ChLsRead {
     Read(ChLs, Cursor),
     Refused(u8),
@@ -343,7 +343,7 @@ impl ChLs {
 }
 
 // Set external universe source.
-#[derive(Drop)]
+#[derive(Clone, Copy)]
 pub struct Sxus {
     // 0-based
     pub universe_index: u8,
@@ -351,7 +351,7 @@ pub struct Sxus {
     pub connection_string: CString,
 }
 
-#[derive(Drop)]
+#[derive(Clone, Copy)]
 pub enum SxusRead {
     Read(Sxus, Cursor),
     Refused(u8),
@@ -408,7 +408,7 @@ impl Sxus {
 }
 
 // A message of one kind.
-#[derive(Drop)]
+#[derive(Clone, Copy)]
 pub enum Message {
     Capa(Capa),
     UNam(UNam),
@@ -418,7 +418,7 @@ pub enum Message {
 }
 
 // A message with the cursor behind its body; a content type of no kind that is read; a body that cannot be read.
-#[derive(Drop)]
+#[derive(Clone, Copy)]
 pub enum MessageRead {
     Read(Message, Cursor),
     Unknown,

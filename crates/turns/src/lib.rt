@@ -23,7 +23,7 @@ use pinf::{PLoc, PNam};
 use put::{Put, put_u32, weigh};
 use sdmx::{Capa, ChBk, ChLs, Sxus, UNam};
 
-#[derive(Drop)]
+#[derive(Clone, Copy)]
 pub enum Kind {
     EnterShow,
     FixtureList,
@@ -47,7 +47,7 @@ pub enum Kind {
     LaserFeedFrame,
 }
 
-#[derive(Drop)]
+#[derive(Clone, Copy)]
 pub enum Turn {
     // fresh or closed
     Idle,
@@ -59,7 +59,7 @@ pub enum Turn {
     Parts(usize, usize),
 }
 
-#[derive(Drop)]
+#[derive(Clone, Copy)]
 pub struct Figures {
     pub index: u8,
     pub layer: Layer,

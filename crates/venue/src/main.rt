@@ -28,7 +28,7 @@ const MODE: usize = 2;
 const PLACE: usize = 3;
 
 // A lamp, and the steps to the next of its row. In metres: x across the stage, y up, z upstage. The tilt is in degrees.
-#[derive(Drop)]
+#[derive(Clone, Copy)]
 struct Lamp {
     row: usize,
     // the maker's ESTA number, low byte first
@@ -149,7 +149,7 @@ fn lamp_at(n: u16) -> Lamp {
 
 // ---- text
 
-#[derive(Drop)]
+#[derive(Clone, Copy)]
 struct Text {
     bytes: [u8; 20],
     units: [u16; 20],

@@ -19,45 +19,45 @@ pub const NAME_LIMIT: usize = 255;
 // ---- what is read
 
 // Where the next field starts.
-#[derive(Drop)]
+#[derive(Clone, Copy)]
 pub struct Cursor {
     pub at: usize,
 }
 
 // Bytes, without the zero byte behind them.
-#[derive(Drop)]
+#[derive(Clone, Copy)]
 pub struct CString {
     pub start: usize,
     pub len: usize,
 }
 
 // 16-bit units, without the zero unit behind them.
-#[derive(Drop)]
+#[derive(Clone, Copy)]
 pub struct Ucs2 {
     pub start: usize,
     pub len: usize,
 }
 
-#[derive(Drop)]
+#[derive(Clone, Copy)]
 pub struct Block {
     pub start: usize,
     pub len: usize,
 }
 
 // What is left of a list: of u16, of u32, of items of one width that its reader knows.
-#[derive(Drop)]
+#[derive(Clone, Copy)]
 pub struct U16List {
     pub at: usize,
     pub left: u16,
 }
 
-#[derive(Drop)]
+#[derive(Clone, Copy)]
 pub struct U32List {
     pub at: usize,
     pub left: u16,
 }
 
-#[derive(Drop)]
+#[derive(Clone, Copy)]
 pub struct Items {
     pub at: usize,
     pub left: u16,
@@ -65,75 +65,75 @@ pub struct Items {
 
 // ---- answers: what was read and the cursor behind it, or the refusal; `Short` is 7, a string's 8 or 19
 
-#[derive(Drop)]
+#[derive(Clone, Copy)]
 pub enum U8Read {
     Read(u8, Cursor),
     Short,
 }
 
-#[derive(Drop)]
+#[derive(Clone, Copy)]
 pub enum U16Read {
     Read(u16, Cursor),
     Short,
 }
 
-#[derive(Drop)]
+#[derive(Clone, Copy)]
 pub enum U32Read {
     Read(u32, Cursor),
     Short,
 }
 
-#[derive(Drop)]
+#[derive(Clone, Copy)]
 pub enum CStringRead {
     Read(CString, Cursor),
     Refused(u8),
 }
 
-#[derive(Drop)]
+#[derive(Clone, Copy)]
 pub enum Ucs2Read {
     Read(Ucs2, Cursor),
     Refused(u8),
 }
 
-#[derive(Drop)]
+#[derive(Clone, Copy)]
 pub enum BlockRead {
     Read(Block, Cursor),
     Short,
 }
 
-#[derive(Drop)]
+#[derive(Clone, Copy)]
 pub enum SkipRead {
     Past(Cursor),
     Short,
 }
 
-#[derive(Drop)]
+#[derive(Clone, Copy)]
 pub enum U16ListRead {
     Read(U16List, Cursor),
     Short,
 }
 
-#[derive(Drop)]
+#[derive(Clone, Copy)]
 pub enum U32ListRead {
     Read(U32List, Cursor),
     Short,
 }
 
-#[derive(Drop)]
+#[derive(Clone, Copy)]
 pub enum ItemsRead {
     Read(Items, Cursor),
     Short,
 }
 
 // A step through a list: an item and what is left behind it. A list that was read meets no refusal, a made-up one may.
-#[derive(Drop)]
+#[derive(Clone, Copy)]
 pub enum U16Next {
     Item(u16, U16List),
     Done,
     Refused(u8),
 }
 
-#[derive(Drop)]
+#[derive(Clone, Copy)]
 pub enum U32Next {
     Item(u32, U32List),
     Done,
@@ -141,7 +141,7 @@ pub enum U32Next {
 }
 
 // The length of a string or a list copied, or the number of the refusal.
-#[derive(Drop)]
+#[derive(Clone, Copy)]
 pub enum Copied {
     Copied(usize),
     Refused(u8),

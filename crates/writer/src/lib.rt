@@ -28,14 +28,14 @@ use sdmx::{Capa, ChBk, ChannelLevel, Sxus, UNam};
 use turns::{Kind, Turn, both, write_headers};
 
 // Whose turn it is, and how many bytes of the packet stand.
-#[derive(Drop)]
+#[derive(Clone, Copy)]
 pub struct Writer {
     pub turn: Turn,
     pub at: usize,
 }
 
 // What a call answers: 0 or the number of its refusal, and the state for the next call.
-#[derive(Drop)]
+#[derive(Clone, Copy)]
 pub struct Written {
     pub number: u8,
     pub writer: Writer,

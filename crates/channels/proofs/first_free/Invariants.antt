@@ -1,0 +1,12 @@
+use Rattle.std.proofs.Common.{◌≡◌, ℕ, ◌+◌, ◌-◌, ◌*◌, ◌≤◌, Bool, not, sym, refl, ap, ◌∙◌, arith}
+use Rattle.patching.specs.Bits.{first}
+use Rattle.patching.specs.Book.{universe_words, taken_at, below}
+use Rattle.channels.specs.Free.{free_of}
+use Rattle.channels.proofs.Blocks.{found, further}
+use Rattle.channels.proofs.first_free.Given as goal
+
+abbrev pub invariant-loop-k : goal.invariant-loop-k
+invariant-loop-k l = (l.k ≤ 8) × ((p : ℕ → Bool) → l.words ≡ universe_words p → first (λ c. not (p c)) (l.k * 64) ≡ l.k * 64)
+
+abbrev pub decreases-loop-k : goal.decreases-loop-k
+decreases-loop-k l = 8 - l.k
