@@ -1,0 +1,9 @@
+use borrow.Author.Rules.{rules}
+use Rattle.put.proofs.Bodies.{bodies}
+use Rattle.caex.proofs.EnterShow.write_to_bytes.Goals as goal
+
+pub returns-then-number-ne0 : goal.returns-then-number-ne0
+returns-then-number-ne0 c = search (bodies, c.weigh-number.ensures) depth 20
+
+pub returns : goal.returns
+returns c = search bodies depth 20

@@ -1,0 +1,7 @@
+use native.Mathlib.Omega.{arith}
+use Rattle.format.specs.Format.{size}
+use Rattle.caex.proofs.LaserFeedControl.size_bytes.Goals as goal
+
+pub returns : goal.returns
+unfolding size
+returns c = omega arith

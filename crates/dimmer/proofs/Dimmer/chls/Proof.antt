@@ -1,9 +1,0 @@
-use Rattle.dimmer.proofs.Calls.{needs}
-use Rattle.dimmer.proofs.Dimmer.chls.Statement.{statement}
-use Rattle.dimmer.proofs.Dimmer.chls.Tie as tie
-
-returns-2 : tie.Need-returns-2
-returns-2 c = search needs
-
-pub chls-spec : {M : Type 1} → statement M
-chls-spec = tie.close (tie.spec (λ c κs. search needs) (λ c. search needs) (λ c κs. search needs) (λ c. search needs) (λ c. search needs) returns-2)

@@ -1,0 +1,6 @@
+use borrow.Author.Rules.{rules}
+use Rattle.lines.proofs.Fields.{strings}
+use Rattle.lines.proofs.put_cstring.Goals as goal
+
+pub returns : goal.returns
+returns c = search strings

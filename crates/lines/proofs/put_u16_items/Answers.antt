@@ -1,0 +1,37 @@
+use Rattle.text.proofs.Loops.{Onto}
+use Rattle.lines.specs.Lines.{decimal, item_lines}
+use Rattle.lines.proofs.Loops.{needs, u16-items}
+use Rattle.lines.proofs.put_u16_items.Goals as goal
+
+pub loop-next-init : goal.loop-next-init
+loop-next-init c = search needs
+
+pub enum_known-n : goal.enum_known-n
+enum_known-n c = search needs
+
+pub overflow_cast-n : goal.overflow_cast-n
+overflow_cast-n c = search needs
+
+pub loop-next-smaller : goal.loop-next-smaller
+loop-next-smaller c = search u16-items.less
+
+pub loop-next-preserved : goal.loop-next-preserved
+loop-next-preserved c = search (u16-items.goes_on, needs)
+
+pub enum_told-1 : goal.enum_told-1
+enum_told-1 c = search needs
+
+pub shape_of-out-in-Done : goal.shape_of-out-in-Done
+shape_of-out-in-Done c = search needs
+
+pub returns-in-Done : goal.returns-in-Done
+returns-in-Done c = search u16-items.ends
+
+pub enum_told-in-Refused : goal.enum_told-in-Refused
+enum_told-in-Refused c = search needs
+
+pub shape_of-out-in-Refused : goal.shape_of-out-in-Refused
+shape_of-out-in-Refused c = search needs
+
+pub returns-in-Refused : goal.returns-in-Refused
+returns-in-Refused c = search u16-items.stops

@@ -1,0 +1,11 @@
+use Rattle.std.proofs.Common.{◌-◌, [], ◌∷◌, length, refl, ◌∙◌, arith, ne_eqb}
+use Rattle.unpatch.specs.Unpatch.{Stay}
+use Rattle.unpatch.proofs.Listed.{among_one}
+use Rattle.unpatch.proofs.Passes.{stay-next}
+use Rattle.unpatch.proofs.ahead_of.Given as goal
+
+abbrev pub invariant-loop-i : goal.invariant-loop-i
+invariant-loop-i l = Stay (l.dropped ∷ []) l.entries l.i
+
+abbrev pub decreases-loop-i : goal.decreases-loop-i
+decreases-loop-i l = length l.entries - l.i

@@ -1,0 +1,12 @@
+use Rattle.std.proofs.Common.{◌-◌, length, sym, refl, ◌∙◌, arith}
+use Rattle.unpatch.specs.Unpatch.{identifiers_of}
+use Rattle.unpatch.proofs.Marks.{word_count}
+use Rattle.unpatch.proofs.Found.{found-dropped}
+use Rattle.unpatch.proofs.Passes.{Dropping, from, unmoved, drop-next, keep_one, dropped}
+use Rattle.unpatch.proofs.drop_by_ranges.Given as goal
+
+abbrev pub invariant-loop-i : goal.invariant-loop-i
+invariant-loop-i l = Dropping (identifiers_of l.identifiers) l.initial.entries l.entries l.kept l.i
+
+abbrev pub decreases-loop-i : goal.decreases-loop-i
+decreases-loop-i l = length l.initial.entries - l.i

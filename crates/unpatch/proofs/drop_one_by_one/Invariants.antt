@@ -1,0 +1,10 @@
+use Rattle.std.proofs.Common.{◌-◌, length, sym, refl, ◌∙◌, arith}
+use Rattle.unpatch.specs.Unpatch.{identifiers_of}
+use Rattle.unpatch.proofs.Passes.{Dropping, from, drop-next, keep_one, dropped}
+use Rattle.unpatch.proofs.drop_one_by_one.Given as goal
+
+abbrev pub invariant-loop-i : goal.invariant-loop-i
+invariant-loop-i l = Dropping (identifiers_of l.identifiers) l.initial.entries l.entries l.kept l.i
+
+abbrev pub decreases-loop-i : goal.decreases-loop-i
+decreases-loop-i l = length l.initial.entries - l.i

@@ -1,0 +1,10 @@
+use Rattle.std.proofs.Common.{◌≡◌, ◌-◌, length, sym, ◌∙◌, arith}
+use Rattle.unpatch.proofs.Marks.{word_count}
+use Rattle.unpatch.proofs.Ranges.{Marking, mark-none, mark-one, mark-not, mark-all}
+use Rattle.unpatch.proofs.mark.Given as goal
+
+abbrev pub invariant-loop-i : goal.invariant-loop-i
+invariant-loop-i l = Marking l.base l.identifiers l.words l.i
+
+abbrev pub decreases-loop-i : goal.decreases-loop-i
+decreases-loop-i l = l.n - l.i
