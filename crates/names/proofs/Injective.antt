@@ -24,7 +24,7 @@ use Rattle.names.specs.Messages.{hint_lines, message_lines}
 abbrev In : List ℕ → List ℕ → Type 0
 In t whole = (before : List ℕ) × (behind : List ℕ) × (whole ≡ before ++ (t ++ behind))
 
-lines-in : {s : List ℕ} {g f : Format} {m : Listed g} {l : Listed f} {x : View g} {v : View f} → Field s m x f l v → In (lines m s x) (lines l s v)
+lines-in : {s : List ℕ} {g : Format} {m : Listed g} {x : View g} {f : Format} {l : Listed f} {v : View f} → Field s m x f l v → In (lines m s x) (lines l s v)
 unfolding lines concat_map
 lines-in {s} {m = m} {x = x} itself = ([], [], sym (append-nil (lines m s x)))
 lines-in {s} (first {b = b} {w = w} h) = let i = lines-in h in (i.0, i.1 ++ lines b s w, rw (i.2, append_assoc, append_assoc) refl)
@@ -75,7 +75,7 @@ items-read f s (suc k) at n = by (eqb n 0) (view f s at) refl (λ e. items-read 
 -- ---- the theorem
 
 -- a field was read, and its numbers have at most eight bytes, if that is so of what it is a field of
-field-read : {s : List ℕ} {g f : Format} {m : Listed g} {l : Listed f} {x : View g} {v : View f} → Field s m x f l v
+field-read : {s : List ℕ} {g : Format} {m : Listed g} {x : View g} {f : Format} {l : Listed f} {v : View f} → Field s m x f l v
     → ReadAt f s v × (narrow f ≡ true) → ReadAt g s x × (narrow g ≡ true)
 field-read itself p = p
 field-read {s} (first {f = f} {h = h} i) p = field-read i ((rw p.0.2 at (both_read f h s p.0.0)).0, (both (narrow f) (narrow h) p.1).0)
