@@ -1,5 +1,6 @@
 // The kinds of message with their figures, whose turn it is in a packet, and the headers with which a packet is opened.
 #![tactic(auto)]
+
 ghost use Rattle.std.specs.Prelude.{◌≡◌, false, ◌&&◌, ◌-◌};
 ghost use Rattle.protocol.specs.Layer.{cookie, header_length, hint_length, header, layer_header};
 ghost use Rattle.protocol.specs.Kind.{layer, content_type, same_kind};

@@ -1,0 +1,6 @@
+use borrow.Author.Rules.{rules}
+use Rattle.messages.proofs.KindLines.{put-letters}
+use Rattle.messages.proofs.put_kind.Goals as goal
+
+pub returns : goal.returns
+returns c = search put-letters

@@ -1,0 +1,5 @@
+use borrow.Author.Rules.{rules}
+use Rattle.turns.proofs.Turn.is_identifier.Goals as goal
+
+pub returns-in-Parts : goal.returns-in-Parts
+returns-in-Parts c = simp c.in-Parts.is
