@@ -22,7 +22,7 @@ use Rattle.chls.specs.Levels.{level_value, number_of, by_number, due, begun, ans
 
 -- ---- the records' bytes
 
-pub nought : ChannelLevel
+abbrev pub nought : ChannelLevel
 nought = record { universe_index = 0; channel = 0; channel_level = 0 }
 
 abbrev pub level_bytes : ChannelLevel → List ℕ
@@ -151,6 +151,10 @@ module _ (at : ℕ) (ls : List ChannelLevel) (i : ℕ) (out : List ℕ) (h : i <
   pub due-within : i < length ls
   due-within = due-means.1
 
+  -- a packet's limit is above them
+  pub due-below : i < 16777216
+  due-below = omega (arith, (taken at (length ls) (length out) due-means.0).within, due-means.1)
+
   pub room_for : at + 2 + 4 * i ≤ length (upto at ls i out)
   room_for = omega (arith, taken at (length ls) (length out) due-means.0, due-means.1, length-upto at ls i out)
 
@@ -171,9 +175,9 @@ not-over : (ls : List ChannelLevel) → over_limit chls (map level_value ls) ≡
 unfolding over_limit
 not-over ls = any-never (map level_value ls)
 
-too_long : (ls : List ChannelLevel) → too_long chls (map level_value ls) ≡ leb 65536 (length ls)
+too_long_lem : (ls : List ChannelLevel) → too_long chls (map level_value ls) ≡ leb 65536 (length ls)
 unfolding too_long
-too_long ls = rw (any-never, length-map ls level_value) (or-false (leb 65536 (length ls)))
+too_long_lem ls = rw (any-never, length-map ls level_value) (or-false (leb 65536 (length ls)))
 
 list-bytes : (ls : List ChannelLevel) → encode chls (map level_value ls) ≡ list_bytes ls (length ls)
 unfolding encode
@@ -198,5 +202,5 @@ pub write-is : {r : Put} {i : ℕ} (at : ℕ) (ls : List ChannelLevel) (out : Li
     → ◌≡◌ {A = Put × List ℕ} (r, upto at ls i out) (put_at chls (map level_value ls) at out)
 unfolding answer_of put_judged number_of
 write-is {i = i} at ls out e d =
-    rw (e, upto_all at ls i out d, no_zero ls, not-over ls, too_long ls, length-body ls)
+    rw (e, upto_all at ls i out d, no_zero ls, not-over ls, too_long_lem ls, length-body ls)
     (settles (number_of at (length ls) (length out)) at (at + (2 + 4 * length ls)) (encode chls (map level_value ls)) out (rw (length-body ls) refl))

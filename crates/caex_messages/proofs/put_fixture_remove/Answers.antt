@@ -1,0 +1,6 @@
+use borrow.Author.Rules.{rules}
+use Rattle.names.proofs.Messages.{messages}
+use Rattle.caex_messages.proofs.put_fixture_remove.Goals as goal
+
+pub returns : goal.returns
+returns c = search messages

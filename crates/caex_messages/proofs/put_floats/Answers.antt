@@ -1,0 +1,6 @@
+use borrow.Author.Rules.{rules}
+use Rattle.caex_messages.proofs.Floats.{vectors}
+use Rattle.caex_messages.proofs.put_floats.Goals as goal
+
+pub returns : goal.returns
+returns c = search vectors

@@ -1,0 +1,6 @@
+use borrow.Author.Rules.{rules}
+use Rattle.lines.proofs.Fields.{fields}
+use Rattle.caex_messages.proofs.put_laser_points.Goals as goal
+
+pub returns : goal.returns
+returns c = search fields

@@ -1,7 +1,0 @@
-use borrow.Author.Rules.{rules}
-use Rattle.lines.proofs.Fields.{fields}
-use Rattle.caex_messages.proofs.put_laser_points.Statement.{statement}
-use Rattle.caex_messages.proofs.put_laser_points.Tie as tie
-
-pub put-laser-points-spec : {M : Type 1} → statement M
-put-laser-points-spec = tie.close (tie.spec (λ c. search rules) (λ c. search rules) (λ c κs. tt) (λ c κs. tt) (λ c. search rules) (λ c. search fields))

@@ -1,0 +1,6 @@
+use borrow.Author.Rules.{rules}
+use Rattle.text.proofs.Prints.{put_then}
+use Rattle.caex_messages.proofs.put_vector.Goals as goal
+
+pub returns : goal.returns
+returns c = search put_then

@@ -1,0 +1,6 @@
+use borrow.Author.Rules.{rules}
+use Rattle.put.proofs.Bodies.{bodies}
+use Rattle.chls.proofs.put_level.Goals as goal
+
+pub returns : goal.returns
+returns c = search bodies depth 9
