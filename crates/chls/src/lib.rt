@@ -1,5 +1,5 @@
 // The channel list of the SDMX layer, written from the caller's own records.
-// A function over a slice of structs is proved by hand, so `write_to_bytes` only passes on: every decision is in functions over numbers and one record.
+// `write_to_bytes` only passes on: every decision is in functions over numbers and one record.
 #![tactic(auto)]
 
 ghost use Rattle.std.specs.Prelude.{◌+◌, ◌*◌, ◌≤◌, ◌≡◌, map, length, replicate};

@@ -3,7 +3,8 @@
 
 ghost use Rattle.std.specs.Prelude.{◌≡◌, ◌&&◌, map};
 ghost use Rattle.protocol.specs.Kind as kinds;
-ghost use Rattle.writing.specs.Call.{opens, give, closes, body, laser_feed_list, feed_name, laser_feed_frame, laser_point, fixture_list, fixture, identifier, fixture_data};
+ghost use Rattle.writing.specs.Call as part;
+ghost use Rattle.writing.specs.Call.{opens, give, closes, body, laser_feed_list, laser_feed_frame, fixture_list, fixture, identifier};
 ghost use Rattle.writing.specs.Writer.{apply, idle, is_idle, is_body, is_item, is_identifier, is_data, is_close, behind_headers};
 ghost use Rattle.chls.specs.Levels.{level_value};
 ghost use Rattle.caex.specs.Codes.{message_type_code};
@@ -265,7 +266,7 @@ impl Writer {
         self.out_of_turn()
     }
 
-    // From the caller's own records. A function over a slice of structs is proved by hand: every decision is in the functions that it calls.
+    // From the caller's own records: every decision is in the functions that it calls.
     pub fn chls(self, out: &mut [u8], channel_levels: &[ChannelLevel]) -> Written
         ensures { written_says result out.new ≡ apply (give (body kinds.ChLs (map level_value channel_levels.now))) (state_of self) out.old }
     {
@@ -488,7 +489,7 @@ impl Writer {
         circuit: &[u16],
         note: &[u16],
     ) -> Written
-        ensures { written_says result out.new ≡ apply (give (fixture_data (data_value fixture_data unit.now circuit.now note.now))) (state_of self) out.old }
+        ensures { written_says result out.new ≡ apply (give (part.fixture_data (data_value fixture_data unit.now circuit.now note.now))) (state_of self) out.old }
     {
         if self.data_is_due() {
             let put = fixture_data.write_to_bytes(out, self.at, unit, circuit, note);
@@ -511,7 +512,7 @@ impl Writer {
     }
 
     pub fn feed_name(self, out: &mut [u8], feed_name: &[u16]) -> Written
-        ensures { written_says result out.new ≡ apply (give (feed_name feed_name.now)) (state_of self) out.old }
+        ensures { written_says result out.new ≡ apply (give (part.feed_name feed_name.now)) (state_of self) out.old }
     {
         if self.item_is_due(Kind::LaserFeedList) {
             let put = LaserFeedList::write_name(out, self.at, feed_name);
@@ -546,7 +547,7 @@ impl Writer {
     }
 
     pub fn laser_point(self, out: &mut [u8], laser_point: LaserPoint) -> Written
-        ensures { written_says result out.new ≡ apply (give (laser_point (point_value laser_point))) (state_of self) out.old }
+        ensures { written_says result out.new ≡ apply (give (part.laser_point (point_value laser_point))) (state_of self) out.old }
     {
         if self.item_is_due(Kind::LaserFeedFrame) {
             let put = laser_point.write_to_bytes(out, self.at);

@@ -1,5 +1,0 @@
-use Rattle.writer.proofs.Writer.close_is_due.Statement.{statement}
-use Rattle.writer.proofs.Writer.close_is_due.Tie as tie
-
-pub close-is-due-spec : {M : Type 1} → statement M
-close-is-due-spec = tie.close (tie.spec (λ c κs. tt) (λ c κs. tt) (λ c. simp (c.is-due.ensures, c.before.is-close.ensures)))
