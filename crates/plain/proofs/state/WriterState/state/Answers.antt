@@ -1,0 +1,5 @@
+use borrow.Author.Rules.{rules}
+use Rattle.plain.proofs.state.WriterState.state.Goals as goal
+
+pub returns : goal.returns
+returns c = rw c.turn_of.ensures
