@@ -128,7 +128,6 @@ pub extern "C" fn citp_chbk_write(
     )
 }
 
-// A function over a slice of structs is proved by hand: it only makes a call.
 #[unsafe(no_mangle)]
 pub extern "C" fn citp_chls_write(out: &mut [u8], at: usize, channel_levels: &[ChannelLevel]) -> Put
     ensures { (result, out.new) ≡ put_at chls (map level_value channel_levels.now) at out.old }

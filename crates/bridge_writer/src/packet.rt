@@ -2,7 +2,8 @@
 ghost use Rattle.std.specs.Prelude.{◌≡◌, map};
 ghost use Rattle.format.specs.Passed.{in_range};
 ghost use Rattle.protocol.specs.Kind as kinds;
-ghost use Rattle.writing.specs.Call.{opens, give, closes, body, laser_feed_list, feed_name, laser_feed_frame, laser_point, fixture_list, fixture, identifier, fixture_data};
+ghost use Rattle.writing.specs.Call as part;
+ghost use Rattle.writing.specs.Call.{opens, give, closes, body, laser_feed_list, laser_feed_frame, laser_point, fixture_list, fixture, identifier, fixture_data};
 ghost use Rattle.chls.specs.Levels.{level_value};
 ghost use Rattle.bridge_writer.specs.Write.{by_code};
 ghost use Rattle.plain.specs.Numbers.{value_of};
@@ -392,7 +393,7 @@ pub extern "C" fn citp_writer_feed_name(
     out: &mut [u8],
     feed_name: &[u16],
 ) -> WriterAnswer
-    ensures { (result, out.new) ≡ called (give (feed_name feed_name.now)) w out.old }
+    ensures { (result, out.new) ≡ called (give (part.feed_name feed_name.now)) w out.old }
 {
     let r = w.state().feed_name(out, feed_name);
     w.answer(r)

@@ -1,0 +1,12 @@
+use mathlib.Core.Path.{◌∙◌}
+use borrow.Author.Rules.{rules}
+use Rattle.caex.specs.Says.{enter_show_says}
+use Rattle.bridge.specs.Read.{flat_string}
+use Rattle.plain.proofs.Told.{told}
+use Rattle.bridge.proofs.read.citp_enter_show_read.Goals as goal
+
+pub returns-in-Read : goal.returns-in-Read
+returns-in-Read c = c.of.ensures ∙ told enter_show_says flat_string c.read_from_bytes.ensures c.in-Read.is
+
+pub returns-in-Refused : goal.returns-in-Refused
+returns-in-Refused c = c.refused.ensures ∙ told enter_show_says flat_string c.read_from_bytes.ensures c.in-Refused.is

@@ -1,0 +1,12 @@
+use mathlib.Core.Path.{◌∙◌}
+use borrow.Author.Rules.{rules}
+use Rattle.sdmx.specs.Says.{unam_says}
+use Rattle.bridge.specs.Read.{flat_universe_string}
+use Rattle.plain.proofs.Told.{told}
+use Rattle.bridge.proofs.read.citp_unam_read.Goals as goal
+
+pub returns-in-Read : goal.returns-in-Read
+returns-in-Read c = c.of.ensures ∙ told unam_says flat_universe_string c.read_from_bytes.ensures c.in-Read.is
+
+pub returns-in-Refused : goal.returns-in-Refused
+returns-in-Refused c = c.refused.ensures ∙ told unam_says flat_universe_string c.read_from_bytes.ensures c.in-Refused.is

@@ -1,0 +1,6 @@
+use borrow.Author.Rules.{rules}
+use Rattle.plain.proofs.Calls.{call-is}
+use Rattle.bridge_writer.proofs.packet.citp_writer_dese.Goals as goal
+
+pub returns : goal.returns
+returns c = call-is _ _ _ c.state.ensures c.dese-r.ensures c.answer.ensures

@@ -1,0 +1,13 @@
+use mathlib.Core.Path.{◌∙◌}
+use borrow.Author.Rules.{rules}
+use Rattle.caex.specs.Codes.{message_type_says}
+use Rattle.bridge_writer.specs.Write.{by_code}
+use Rattle.plain.proofs.Calls.{call-is, refused-is}
+use Rattle.plain.proofs.Told.{told}
+use Rattle.bridge_writer.proofs.packet.citp_writer_fixture_list_head.Goals as goal
+
+pub returns-in_default : goal.returns-in_default
+returns-in_default c = refused-is c.refused.ensures ∙ told message_type_says (by_code _ _) c.from_u8.ensures c.in_default.is
+
+pub returns : goal.returns
+returns c = call-is _ _ _ c.state.ensures c.fixture_list_head-r.ensures c.answer.ensures ∙ told message_type_says (by_code _ _) c.from_u8.ensures c.in-Read.is
