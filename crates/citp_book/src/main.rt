@@ -5,59 +5,62 @@
 use book::{Book, Booked, Entry, Listed};
 use channels::FirstFree;
 use citp::{Cursor, Message, PacketReport, Report, Step};
-use libc::{STDERR_FILENO, STDIN_FILENO, STDOUT_FILENO};
+use intake::read_all;
 
 // ---- lines
 
-fn text(s: &[u8]) {
-    io::write_all(STDOUT_FILENO, s);
+fn text(stdout: &impl Print, s: &[u8]) {
+    let _ = stdout.write_all(s);
 }
 
-fn decimal(key: &[u8], n: u64) {
-    text(key);
-    io::print_decimal(STDOUT_FILENO, n);
-    text(b"\n");
+fn decimal(stdout: &impl Print, key: &[u8], n: u64) {
+    text(stdout, key);
+    let _ = stdout.print(n);
+    text(stdout, b"\n");
 }
 
-fn show_entry(e: Entry) {
-    decimal(b"fixture_identifier=", e.fixture_identifier as u64);
-    decimal(b"universe=", e.universe as u64);
-    decimal(b"channel=", e.channel as u64);
-    decimal(b"channel_count=", e.channel_count as u64);
+fn show_entry(stdout: &impl Print, e: Entry) {
+    decimal(stdout, b"fixture_identifier=", e.fixture_identifier as u64);
+    decimal(stdout, b"universe=", e.universe as u64);
+    decimal(stdout, b"channel=", e.channel as u64);
+    decimal(stdout, b"channel_count=", e.channel_count as u64);
 }
 
-fn show_first_free(free: FirstFree) {
+fn show_first_free(stdout: &impl Print, free: FirstFree) {
     match free {
         FirstFree::Channel(channel) => {
-            decimal(b"first_free=", channel as u64);
+            decimal(stdout, b"first_free=", channel as u64);
         }
         FirstFree::NoneFree => {
-            text(b"first_free=none\n");
+            text(stdout, b"first_free=none\n");
         }
     }
 }
 
-fn complain(what: &[u8]) {
-    io::write_all(STDERR_FILENO, what);
+fn complain(stderr: &impl Print, what: &[u8]) {
+    let _ = stderr.write_all(what);
 }
 
-fn tell_unread(unread: bool) {
+fn tell_unread(stderr: &impl Print, unread: bool) {
     if unread {
-        complain(b"citp_book: some packets cannot be read: citp-list lists them\n");
+        complain(
+            stderr,
+            b"citp_book: some packets cannot be read: citp-list lists them\n",
+        );
     }
 }
 
 // ---- the book at the stream's end
 
-fn show_entries(book: Book, entries: &[u64]) {
+fn show_entries(stdout: &impl Print, book: Book, entries: &[u64]) {
     let held = book.held(entries);
-    decimal(b"entries=", held as u64);
+    decimal(stdout, b"entries=", held as u64);
     let mut k: usize = 0;
     while k < held {
         let Listed::Item(e) = book.entry(entries, k) else {
             return;
         };
-        show_entry(e);
+        show_entry(stdout, e);
         k += 1;
     }
 }
@@ -77,21 +80,21 @@ fn count_universes(book: Book, entries: &[u64]) -> u64 {
     count
 }
 
-fn show_universe(book: Book, entries: &[u64], universe: u16) {
+fn show_universe(stdout: &impl Print, book: Book, entries: &[u64], universe: u16) {
     let taken = book.taken(entries, universe);
     if taken == 0 {
         return;
     }
-    decimal(b"universe=", universe as u64);
-    decimal(b"taken=", taken as u64);
-    show_first_free(book.first_free(entries, universe));
+    decimal(stdout, b"universe=", universe as u64);
+    decimal(stdout, b"taken=", taken as u64);
+    show_first_free(stdout, book.first_free(entries, universe));
 }
 
-fn show_universes(book: Book, entries: &[u64]) {
-    decimal(b"universes=", count_universes(book, entries));
+fn show_universes(stdout: &impl Print, book: Book, entries: &[u64]) {
+    decimal(stdout, b"universes=", count_universes(book, entries));
     let mut universe: u16 = 0;
     while universe < 256 {
-        show_universe(book, entries, universe);
+        show_universe(stdout, book, entries, universe);
         universe += 1;
     }
 }
@@ -99,17 +102,17 @@ fn show_universes(book: Book, entries: &[u64]) {
 // ---- the stream
 
 // The book after a message; a refused one is shown.
-fn after(answer: Booked, at: usize, kind: &[u8]) -> Book {
+fn after(stdout: &impl Print, answer: Booked, at: usize, kind: &[u8]) -> Book {
     if answer.number != 0 {
-        decimal(b"at=", at as u64);
-        text(kind);
-        decimal(b"refusal=", answer.number as u64);
+        decimal(stdout, b"at=", at as u64);
+        text(stdout, kind);
+        decimal(stdout, b"refusal=", answer.number as u64);
     }
     answer.book
 }
 
 // The book after a packet, which changes it where it is a Ptch or a UPtc.
-fn feed(book: Book, entries: &mut [u64], p: PacketReport, s: &[u8]) -> Book {
+fn feed(stdout: &impl Print, book: Book, entries: &mut [u64], p: PacketReport, s: &[u8]) -> Book {
     let report = p.report;
     let Report::Message(message, _, _) = report else {
         return book;
@@ -119,8 +122,18 @@ fn feed(book: Book, entries: &mut [u64], p: PacketReport, s: &[u8]) -> Book {
     };
     let body = p.body(s);
     match message {
-        fptc::Message::Ptch(_) => after(book.patch(entries, body), p.offset, b"kind=Ptch\n"),
-        fptc::Message::UPtc(_) => after(book.unpatch(entries, body), p.offset, b"kind=UPtc\n"),
+        fptc::Message::Ptch(_) => after(
+            stdout,
+            book.patch(entries, body),
+            p.offset,
+            b"kind=Ptch\n",
+        ),
+        fptc::Message::UPtc(_) => after(
+            stdout,
+            book.unpatch(entries, body),
+            p.offset,
+            b"kind=UPtc\n",
+        ),
         fptc::Message::SPtc(_) => book,
     }
 }
@@ -134,13 +147,13 @@ fn is_unread(p: PacketReport) -> bool {
     true
 }
 
-fn show_end(packets: u64, number: u8) {
-    decimal(b"packets=", packets);
-    decimal(b"stop=", number as u64);
+fn show_end(stdout: &impl Print, packets: u64, number: u8) {
+    decimal(stdout, b"packets=", packets);
+    decimal(stdout, b"stop=", number as u64);
 }
 
 // A packet has 20 bytes or more, so the stream ends before the bound.
-fn walk(s: &[u8], entries: &mut [u64]) {
+fn walk(stdout: &impl Print, stderr: &impl Print, s: &[u8], entries: &mut [u64]) {
     let mut book = Book::new();
     let mut c = Cursor::new();
     let mut packets: u64 = 0;
@@ -149,15 +162,15 @@ fn walk(s: &[u8], entries: &mut [u64]) {
         match c.step(s) {
             Step::Packet(p, next) => {
                 unread = unread || is_unread(p);
-                book = feed(book, entries, p, s);
+                book = feed(stdout, book, entries, p, s);
                 c = next;
                 packets += 1;
             }
             Step::End(number, _) => {
-                show_entries(book, entries);
-                show_universes(book, entries);
-                show_end(packets, number);
-                tell_unread(unread);
+                show_entries(stdout, book, entries);
+                show_universes(stdout, book, entries);
+                show_end(stdout, packets, number);
+                tell_unread(stderr, unread);
                 return;
             }
         }
@@ -166,41 +179,21 @@ fn walk(s: &[u8], entries: &mut [u64]) {
 
 // ---- the input
 
-// How many bytes were read, or that a read failed.
-#[derive(Clone, Copy)]
-enum Input {
-    Bytes(usize),
-    Failed,
-}
-
-// Reads until the input ends or the buffer is full.
-fn read_input(buf: &mut [u8]) -> Input {
-    let mut n: usize = 0;
-    while n < buf.len() {
-        let got = libc::read(STDIN_FILENO, &mut buf[n..]);
-        if got < 0 {
-            return Input::Failed;
-        }
-        let more = io::count(got, &buf[n..]);
-        if more == 0 {
-            return Input::Bytes(n);
-        }
-        n += more;
-    }
-    Input::Bytes(n)
-}
-
 // The buffer has a byte more than a stream may have.
-fn main() {
+fn main(rt: HostRuntime) {
+    let stderr = rt.stderr();
     let mut buf = [0u8; 65537];
-    let Input::Bytes(n) = read_input(&mut buf) else {
-        complain(b"citp_book: standard input: cannot be read\n");
+    let Ok(n) = read_all(&mut rt.stdin(), &mut buf) else {
+        complain(&stderr, b"citp_book: standard input: cannot be read\n");
         return;
     };
     if 65536 < n {
-        complain(b"citp_book: standard input: longer than 65536 bytes\n");
+        complain(
+            &stderr,
+            b"citp_book: standard input: longer than 65536 bytes\n",
+        );
         return;
     }
     let mut entries = [0u64; 256];
-    walk(&buf[..n], &mut entries);
+    walk(&rt.stdout(), &stderr, &buf[..n], &mut entries);
 }

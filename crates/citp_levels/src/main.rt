@@ -4,19 +4,18 @@
 
 use citp::{Cursor, Message, PacketReport, Report, Step};
 use dimmer::{CHANNELS, Dimmer};
-use libc::{STDERR_FILENO, STDIN_FILENO, STDOUT_FILENO};
+use intake::{has_argument, read_all};
+use std::rt::Env;
 
 // ---- lines
 
-fn complain(what: &[u8]) {
-    io::write_all(STDERR_FILENO, what);
+fn complain(stderr: &impl Print, what: &[u8]) {
+    let _ = stderr.write_all(what);
 }
 
 // Whether the line could be written.
-fn decimal(key: &[u8], n: u64) -> bool {
-    io::write_all(STDOUT_FILENO, key)
-        && io::print_decimal(STDOUT_FILENO, n)
-        && io::write_all(STDOUT_FILENO, b"\n")
+fn decimal(stdout: &impl Print, key: &[u8], n: u64) -> bool {
+    stdout.write_all(key).is_ok() && stdout.print(n).is_ok() && stdout.write_all(b"\n").is_ok()
 }
 
 // A level as the number to be printed.
@@ -25,10 +24,10 @@ fn wide(x: u8) -> u64 {
 }
 
 // Whether all lines could be written, here and below.
-fn show_levels(levels: &[u8; 512]) -> bool {
+fn show_levels(stdout: &impl Print, levels: &[u8; 512]) -> bool {
     let mut k: usize = 0;
     while k < CHANNELS {
-        if !decimal(b"levels=", wide(levels[k])) {
+        if !decimal(stdout, b"levels=", wide(levels[k])) {
             return false;
         }
         k += 1;
@@ -36,37 +35,46 @@ fn show_levels(levels: &[u8; 512]) -> bool {
     true
 }
 
-fn show_end(levels: &[u8; 512], packets: u64, number: u8) -> bool {
-    decimal(b"levels.count=", CHANNELS as u64)
-        && show_levels(levels)
-        && decimal(b"packets=", packets)
-        && decimal(b"stop=", number as u64)
+fn show_end(stdout: &impl Print, levels: &[u8; 512], packets: u64, number: u8) -> bool {
+    decimal(stdout, b"levels.count=", CHANNELS as u64)
+        && show_levels(stdout, levels)
+        && decimal(stdout, b"packets=", packets)
+        && decimal(stdout, b"stop=", number as u64)
 }
 
 // A message's number; a refused one is shown.
-fn show_number(number: u8, at: usize, kind: &[u8]) -> bool {
+fn show_number(stdout: &impl Print, number: u8, at: usize, kind: &[u8]) -> bool {
     if number == 0 {
         return true;
     }
-    decimal(b"at=", at as u64)
-        && io::write_all(STDOUT_FILENO, kind)
-        && decimal(b"refusal=", number as u64)
+    decimal(stdout, b"at=", at as u64)
+        && stdout.write_all(kind).is_ok()
+        && decimal(stdout, b"refusal=", number as u64)
 }
 
 // What is wrong with the output or the stream.
-fn tell(written: bool, unread: bool) {
+fn tell(stderr: &impl Print, written: bool, unread: bool) {
     if !written {
-        complain(b"citp_levels: standard output: cannot be written\n");
+        complain(stderr, b"citp_levels: standard output: cannot be written\n");
     }
     if unread {
-        complain(b"citp_levels: some packets cannot be read: citp-list lists them\n");
+        complain(
+            stderr,
+            b"citp_levels: some packets cannot be read: citp-list lists them\n",
+        );
     }
 }
 
 // ---- the stream
 
 // A packet sets levels where it is a ChBk or a ChLs.
-fn feed(dimmer: Dimmer, levels: &mut [u8; 512], p: PacketReport, s: &[u8]) -> bool {
+fn feed(
+    stdout: &impl Print,
+    dimmer: Dimmer,
+    levels: &mut [u8; 512],
+    p: PacketReport,
+    s: &[u8],
+) -> bool {
     let report = p.report;
     let Report::Message(message, _, _) = report else {
         return true;
@@ -77,10 +85,10 @@ fn feed(dimmer: Dimmer, levels: &mut [u8; 512], p: PacketReport, s: &[u8]) -> bo
     let body = p.body(s);
     match message {
         sdmx::Message::ChBk(_) => {
-            show_number(dimmer.chbk(levels, body), p.offset, b"kind=ChBk\n")
+            show_number(stdout, dimmer.chbk(levels, body), p.offset, b"kind=ChBk\n")
         }
         sdmx::Message::ChLs(_) => {
-            show_number(dimmer.chls(levels, body), p.offset, b"kind=ChLs\n")
+            show_number(stdout, dimmer.chls(levels, body), p.offset, b"kind=ChLs\n")
         }
         _ => true,
     }
@@ -96,7 +104,13 @@ fn is_unread(p: PacketReport) -> bool {
 }
 
 // A packet has 20 bytes or more, so the stream ends before the bound.
-fn walk(s: &[u8], universe_index: u8, levels: &mut [u8; 512]) {
+fn walk(
+    stdout: &impl Print,
+    stderr: &impl Print,
+    s: &[u8],
+    universe_index: u8,
+    levels: &mut [u8; 512],
+) {
     let dimmer = Dimmer::new(universe_index, levels);
     let mut c = Cursor::new();
     let mut packets: u64 = 0;
@@ -106,44 +120,18 @@ fn walk(s: &[u8], universe_index: u8, levels: &mut [u8; 512]) {
         match c.step(s) {
             Step::Packet(p, next) => {
                 unread = unread || is_unread(p);
-                let shown = feed(dimmer, levels, p, s);
+                let shown = feed(stdout, dimmer, levels, p, s);
                 written = written && shown;
                 c = next;
                 packets += 1;
             }
             Step::End(number, _) => {
-                let shown = show_end(levels, packets, number);
-                tell(written && shown, unread);
+                let shown = show_end(stdout, levels, packets, number);
+                tell(stderr, written && shown, unread);
                 return;
             }
         }
     }
-}
-
-// ---- the input
-
-// How many bytes were read, or that a read failed.
-#[derive(Clone, Copy)]
-enum Input {
-    Bytes(usize),
-    Failed,
-}
-
-// Reads until the input ends or the buffer is full.
-fn read_input(buf: &mut [u8]) -> Input {
-    let mut n: usize = 0;
-    while n < buf.len() {
-        let got = libc::read(STDIN_FILENO, &mut buf[n..]);
-        if got < 0 {
-            return Input::Failed;
-        }
-        let more = io::count(got, &buf[n..]);
-        if more == 0 {
-            return Input::Bytes(n);
-        }
-        n += more;
-    }
-    Input::Bytes(n)
 }
 
 // ---- the argument
@@ -179,45 +167,57 @@ fn universe_of(digits: &[u8]) -> Universe {
     Universe::Index(n as u8)
 }
 
-fn tell_argument(argument: &[u8]) {
-    complain(b"citp_levels: ");
-    complain(argument);
-    complain(b": not a universe, a decimal number of 0 to 255\n");
+fn tell_argument(stderr: &impl Print, argument: &[u8]) {
+    complain(stderr, b"citp_levels: ");
+    complain(stderr, argument);
+    complain(stderr, b": not a universe, a decimal number of 0 to 255\n");
 }
 
-// The universe of the argument; that it names none is told.
-fn read_argument() -> Universe {
-    let mut argument = io::buffer();
-    let length = os::arg(1, &mut argument);
-    if os::errno() != 0 {
-        tell_argument(&argument);
+// The universe of the argument; that it names none is told. One that is too long fills the buffer.
+fn read_argument(rt: &impl Env, stderr: &impl Print) -> Universe {
+    let mut argument = [0u8; 4096];
+    let Ok(length) = rt.arg(1, &mut argument) else {
+        tell_argument(stderr, &argument);
         return Universe::None;
-    }
+    };
     let universe = universe_of(&argument[..length]);
     if let Universe::None = universe {
-        tell_argument(&argument[..length]);
+        tell_argument(stderr, &argument[..length]);
     }
     universe
 }
 
 // The buffer has a byte more than a stream may have.
-fn main() {
-    if os::arg_count() != 2 {
-        complain(b"citp_levels: one argument is due: the universe, a decimal number of 0 to 255\n");
+fn main(rt: HostRuntime) {
+    let stderr = rt.stderr();
+    if !has_argument(&rt, 1) || has_argument(&rt, 2) {
+        complain(
+            &stderr,
+            b"citp_levels: one argument is due: the universe, a decimal number of 0 to 255\n",
+        );
         return;
     }
-    let Universe::Index(universe_index) = read_argument() else {
+    let Universe::Index(universe_index) = read_argument(&rt, &stderr) else {
         return;
     };
     let mut buf = [0u8; 65537];
-    let Input::Bytes(n) = read_input(&mut buf) else {
-        complain(b"citp_levels: standard input: cannot be read\n");
+    let Ok(n) = read_all(&mut rt.stdin(), &mut buf) else {
+        complain(&stderr, b"citp_levels: standard input: cannot be read\n");
         return;
     };
     if 65536 < n {
-        complain(b"citp_levels: standard input: longer than 65536 bytes\n");
+        complain(
+            &stderr,
+            b"citp_levels: standard input: longer than 65536 bytes\n",
+        );
         return;
     }
     let mut levels = [0u8; 512];
-    walk(&buf[..n], universe_index, &mut levels);
+    walk(
+        &rt.stdout(),
+        &stderr,
+        &buf[..n],
+        universe_index,
+        &mut levels,
+    );
 }

@@ -1,15 +1,15 @@
 // Lists the packets of standard input, of which it reads the first 65,536 bytes.
 #![tactic(auto)]
 
-use libc::{STDIN_FILENO, STDOUT_FILENO};
+use intake::read_full;
 use listing::list_from;
 
 // Writes the listing of s part by part; a write that fails ends it.
-fn list(s: &[u8], out: &mut [u8]) {
+fn list(stdout: &impl Print, s: &[u8], out: &mut [u8]) {
     let mut from: u32 = 0;
     while from < 0x8000_0000 {
         let n = list_from(out, from, s);
-        if !io::write_all(STDOUT_FILENO, &out[..n]) {
+        if stdout.write_all(&out[..n]).is_err() {
             return;
         }
         if n < 65_536 {
@@ -19,9 +19,9 @@ fn list(s: &[u8], out: &mut [u8]) {
     }
 }
 
-fn main() {
-    let mut stream = io::large_buffer();
-    let n = io::read_full(STDIN_FILENO, &mut stream);
-    let mut out = io::large_buffer();
-    list(&stream[..n], &mut out);
+fn main(rt: HostRuntime) {
+    let mut stream = [0u8; 65536];
+    let n = read_full(&mut rt.stdin(), &mut stream);
+    let mut out = [0u8; 65536];
+    list(&rt.stdout(), &stream[..n], &mut out);
 }

@@ -4,29 +4,31 @@
 
 use capabilities::{Unsupported, list_unsupported};
 use citp::{Cursor, Message, PacketReport, Report, Step};
-use libc::{STDERR_FILENO, STDOUT_FILENO};
+use intake::{has_argument, read_all};
+use std::fmt::InlineText;
+use std::io::ErrorKind;
+use std::rt::{Env, Files};
+use std::{fs, io, str};
 use wire::Copied;
 
 // ---- lines
 
 // Whether the line could be written.
-fn decimal(key: &[u8], n: u64) -> bool {
-    io::write_all(STDOUT_FILENO, key)
-        && io::print_decimal(STDOUT_FILENO, n)
-        && io::write_all(STDOUT_FILENO, b"\n")
+fn decimal(stdout: &impl Print, key: &[u8], n: u64) -> bool {
+    stdout.write_all(key).is_ok() && stdout.print(n).is_ok() && stdout.write_all(b"\n").is_ok()
 }
 
-fn complain(what: &[u8]) {
-    io::write_all(STDERR_FILENO, what);
+fn complain(stderr: &impl Print, what: &[u8]) {
+    let _ = stderr.write_all(what);
 }
 
-fn show_offsets(offsets: &[usize], count: usize) -> bool {
+fn show_offsets(stdout: &impl Print, offsets: &[usize], count: usize) -> bool {
     let mut k: usize = 0;
     while k < offsets.len() {
         if count <= k {
             return true;
         }
-        if !decimal(b"offsets=", offsets[k] as u64) {
+        if !decimal(stdout, b"offsets=", offsets[k] as u64) {
             return false;
         }
         k += 1;
@@ -35,10 +37,10 @@ fn show_offsets(offsets: &[usize], count: usize) -> bool {
 }
 
 // Whether all lines could be written.
-fn show(answer: Unsupported, offsets: &[usize]) -> bool {
-    decimal(b"offsets.count=", answer.count as u64)
-        && show_offsets(offsets, answer.count)
-        && decimal(b"stop=", answer.stop as u64)
+fn show(stdout: &impl Print, answer: Unsupported, offsets: &[usize]) -> bool {
+    decimal(stdout, b"offsets.count=", answer.count as u64)
+        && show_offsets(stdout, offsets, answer.count)
+        && decimal(stdout, b"stop=", answer.stop as u64)
 }
 
 // ---- the receiver's capabilities
@@ -104,69 +106,70 @@ fn read_capabilities(s: &[u8], numbers: &mut [u16]) -> Receiver {
 
 // ---- the files
 
-// How many bytes were read, or that a read failed.
+// How many bytes were read, or that they could not be.
 #[derive(Clone, Copy)]
 enum Input {
     Bytes(usize),
     Failed,
 }
 
-// Reads until the file ends or the buffer is full.
-fn read_all(fd: i32, buf: &mut [u8]) -> Input {
-    let mut n: usize = 0;
-    while n < buf.len() {
-        let got = libc::read(fd, &mut buf[n..]);
-        if got < 0 {
-            return Input::Failed;
-        }
-        let more = io::count(got, &buf[n..]);
-        if more == 0 {
-            return Input::Bytes(n);
-        }
-        n += more;
+// The system's words, without the number that std puts behind them.
+fn words(text: &str) -> &str {
+    match text.split_once(" (os error ") {
+        Some((words, _)) => words,
+        None => text,
     }
-    Input::Bytes(n)
 }
 
 // What is wrong with a file, with the system's words for the call that failed.
-fn fail(name: &[u8]) {
-    complain(b"citp_unsupported: ");
-    complain(name);
-    os::fail(b": cannot be read");
+fn fail(stderr: &impl Print, name: &[u8], error: io::Error) {
+    let text = InlineText::<128>::of(error);
+    complain(stderr, b"citp_unsupported: ");
+    complain(stderr, name);
+    complain(stderr, b": cannot be read: ");
+    complain(stderr, words(text.as_str()).as_bytes());
+    complain(stderr, b"\n");
+}
+
+// The bytes of a file, whose name has to be text.
+fn read_named(rt: &impl Files, name: &[u8], buf: &mut [u8]) -> io::Result<usize> {
+    let Ok(path) = str::from_utf8(name) else {
+        return Err(io::Error::from(ErrorKind::InvalidFilename));
+    };
+    let mut file = fs::open(rt, path)?;
+    read_all(&mut file, buf)
 }
 
 // How many bytes a file has; that it cannot be read, or is too long, is told.
-fn read_file(name: &[u8], buf: &mut [u8]) -> Input {
-    let fd = os::open_read(name);
-    if fd < 0 {
-        fail(name);
-        return Input::Failed;
+fn read_file(rt: &impl Files, stderr: &impl Print, name: &[u8], buf: &mut [u8]) -> Input {
+    match read_named(rt, name, buf) {
+        Ok(n) if n <= 65536 => Input::Bytes(n),
+        Ok(_) => {
+            complain(stderr, b"citp_unsupported: ");
+            complain(stderr, name);
+            complain(stderr, b": longer than 65536 bytes\n");
+            Input::Failed
+        }
+        Err(e) => {
+            fail(stderr, name, e);
+            Input::Failed
+        }
     }
-    let Input::Bytes(n) = read_all(fd, buf) else {
-        fail(name);
-        return Input::Failed;
-    };
-    libc::close(fd);
-    if 65536 < n {
-        complain(b"citp_unsupported: ");
-        complain(name);
-        complain(b": longer than 65536 bytes\n");
-        return Input::Failed;
-    }
-    Input::Bytes(n)
 }
 
 // ---- the arguments
 
-// The file that an argument names.
-fn read_argument(i: usize, buf: &mut [u8]) -> Input {
-    let mut name = io::buffer();
-    let length = os::arg(i, &mut name);
-    if os::errno() != 0 {
-        fail(&name);
+// Linux's number of the words `File name too long`.
+const NAME_TOO_LONG: i32 = 36;
+
+// The file that an argument names. A name that is too long fills its buffer.
+fn read_argument(rt: &(impl Env + Files), stderr: &impl Print, i: usize, buf: &mut [u8]) -> Input {
+    let mut name = [0u8; 4096];
+    let Ok(length) = rt.arg(i, &mut name) else {
+        fail(stderr, &name, io::Error::from_raw_os_error(NAME_TOO_LONG));
         return Input::Failed;
-    }
-    read_file(&name[..length], buf)
+    };
+    read_file(rt, stderr, &name[..length], buf)
 }
 
 // ---- the two streams
@@ -188,39 +191,52 @@ fn first_bytes(buf: &[u8], count: usize) -> &[u8] {
 }
 
 // A Capa may be among what cannot be read of the receiver's stream.
-fn tell(receiver: Receiver) {
+fn tell(stderr: &impl Print, receiver: Receiver) {
     if !receiver.whole {
         complain(
+            stderr,
             b"citp_unsupported: not all of the receiver's stream can be read: citp-list shows where\n",
         );
     }
 }
 
 // A Capa has at most 32,755 capabilities, and a stream at most 3,276 packets.
-fn list(receiver_stream: &[u8], s: &[u8]) {
+fn list(stdout: &impl Print, stderr: &impl Print, receiver_stream: &[u8], s: &[u8]) {
     let mut numbers = [0u16; 32755];
     let receiver = read_capabilities(receiver_stream, &mut numbers);
     let mut offsets = [0usize; 3276];
     let answer = list_unsupported(first_numbers(&numbers, receiver.count), s, &mut offsets);
-    if !show(answer, &offsets) {
-        complain(b"citp_unsupported: standard output: cannot be written\n");
+    if !show(stdout, answer, &offsets) {
+        complain(
+            stderr,
+            b"citp_unsupported: standard output: cannot be written\n",
+        );
     }
-    tell(receiver);
+    tell(stderr, receiver);
 }
 
 // A buffer has a byte more than a stream may have.
-fn main() {
-    if os::arg_count() != 3 {
-        complain(b"citp_unsupported: two files are due: the receiver's stream and the sender's\n");
+fn main(rt: HostRuntime) {
+    let stderr = rt.stderr();
+    if !has_argument(&rt, 2) || has_argument(&rt, 3) {
+        complain(
+            &stderr,
+            b"citp_unsupported: two files are due: the receiver's stream and the sender's\n",
+        );
         return;
     }
     let mut receiver = [0u8; 65537];
-    let Input::Bytes(m) = read_argument(1, &mut receiver) else {
+    let Input::Bytes(m) = read_argument(&rt, &stderr, 1, &mut receiver) else {
         return;
     };
     let mut sender = [0u8; 65537];
-    let Input::Bytes(n) = read_argument(2, &mut sender) else {
+    let Input::Bytes(n) = read_argument(&rt, &stderr, 2, &mut sender) else {
         return;
     };
-    list(first_bytes(&receiver, m), first_bytes(&sender, n));
+    list(
+        &rt.stdout(),
+        &stderr,
+        first_bytes(&receiver, m),
+        first_bytes(&sender, n),
+    );
 }

@@ -8,7 +8,7 @@ ghost use Rattle.std.specs.Prelude.{◌≡◌, ◌≤◌, length};
 use capabilities::list_unsupported;
 use citp::{Cursor, Message, PacketReport, Report, Step};
 use fixture::{Fixtures, FixturesNext, Identifier, IdentifierType, Identifiers, IdentifiersNext};
-use libc::{STDIN_FILENO, STDOUT_FILENO};
+use intake::read_full;
 use turns::Kind;
 use wire::Block;
 use writer::{Writer, Written};
@@ -61,65 +61,69 @@ const FEED_COUNT: Label = *b"  feed_count            ";
 
 const POINT_COUNT: Label = *b"  point_count           ";
 
-fn text(s: &[u8]) {
-    io::write_all(STDOUT_FILENO, s);
+fn text(stdout: &impl Print, s: &[u8]) {
+    let _ = stdout.write_all(s);
 }
 
-fn show(label: Label, number: u64) {
-    text(&label);
-    io::print_decimal(STDOUT_FILENO, number);
-    text(b"\n");
+fn show(stdout: &impl Print, label: Label, number: u64) {
+    text(stdout, &label);
+    let _ = stdout.print(number);
+    text(stdout, b"\n");
 }
 
 // ---- a packet read
 
-fn show_identifier(identifiers: Identifiers, body: &[u8]) {
+fn show_identifier(stdout: &impl Print, identifiers: Identifiers, body: &[u8]) {
     let IdentifiersNext::Item(x, _) = identifiers.next(body) else {
         return;
     };
     let identifier_type = x.identifier_type;
-    show(IDENTIFIER_TYPE, identifier_type.code() as u64);
-    show(DATA_SIZE, x.data_size() as u64);
+    show(stdout, IDENTIFIER_TYPE, identifier_type.code() as u64);
+    show(stdout, DATA_SIZE, x.data_size() as u64);
 }
 
-fn show_fixture(fixtures: Fixtures, body: &[u8]) {
+fn show_fixture(stdout: &impl Print, fixtures: Fixtures, body: &[u8]) {
     let FixturesNext::Item(fixture, _) = fixtures.next(body) else {
         return;
     };
-    show_identifier(fixture.identifiers, body);
+    show_identifier(stdout, fixture.identifiers, body);
 }
 
 // Of a fixture list the first identifier of its first fixture, of a laser feed its count.
-fn show_message(message: Message, body: &[u8]) {
+fn show_message(stdout: &impl Print, message: Message, body: &[u8]) {
     let Message::Caex(message) = message else {
         return;
     };
     match message {
-        caex::Message::FixtureList(list) => show_fixture(list.fixtures, body),
-        caex::Message::LaserFeedList(list) => show(FEED_COUNT, list.feed_count() as u64),
-        caex::Message::LaserFeedFrame(frame) => show(POINT_COUNT, frame.point_count() as u64),
+        caex::Message::FixtureList(list) => show_fixture(stdout, list.fixtures, body),
+        caex::Message::LaserFeedList(list) => show(stdout, FEED_COUNT, list.feed_count() as u64),
+        caex::Message::LaserFeedFrame(frame) => show(
+            stdout,
+            POINT_COUNT,
+            frame.point_count() as u64,
+        ),
         _ => {}
     }
 }
 
-fn show_packet(p: PacketReport, s: &[u8]) {
+fn show_packet(stdout: &impl Print, p: PacketReport, s: &[u8]) {
     let report = p.report;
     match report {
         Report::Message(message, _, added) => {
-            show(MESSAGE, added as u64);
-            show_message(message, p.body(s));
+            show(stdout, MESSAGE, added as u64);
+            show_message(stdout, message, p.body(s));
         }
-        Report::UnknownLayer(_) => show(UNKNOWN_LAYER, p.size as u64),
-        Report::UnknownKind(_, _) => show(UNKNOWN_KIND, p.size as u64),
-        Report::Fragment(part, _) => show(FRAGMENT, part as u64),
-        Report::Refused(n) => show(REFUSED, n as u64),
+        Report::UnknownLayer(_) => show(stdout, UNKNOWN_LAYER, p.size as u64),
+        Report::UnknownKind(_, _) => show(stdout, UNKNOWN_KIND, p.size as u64),
+        Report::Fragment(part, _) => show(stdout, FRAGMENT, part as u64),
+        Report::Refused(n) => show(stdout, REFUSED, n as u64),
     }
 }
 
-fn read(s: &[u8]) {
+fn read(stdout: &impl Print, s: &[u8]) {
     match Cursor::new().step(s) {
-        Step::Packet(p, _) => show_packet(p, s),
-        Step::End(n, _) => show(STOP, n as u64),
+        Step::Packet(p, _) => show_packet(stdout, p, s),
+        Step::End(n, _) => show(stdout, STOP, n as u64),
     }
 }
 
@@ -166,21 +170,21 @@ impl Line {
         line
     }
 
-    fn read(self) {
+    fn read(self, stdout: &impl Print) {
         let place = Block {
             start: 0,
             len: self.digits / 2,
         };
         if self.in_packet {
-            read(place.bytes(&self.packet));
+            read(stdout, place.bytes(&self.packet));
         }
     }
 
-    fn take(self, c: u8) -> Line {
-        text(&[c]);
+    fn take(self, stdout: &impl Print, c: u8) -> Line {
+        text(stdout, &[c]);
         match c {
             b'\n' => {
-                self.read();
+                self.read(stdout);
                 Line::new(false)
             }
             b'=' => Line::new(true),
@@ -190,22 +194,22 @@ impl Line {
 }
 
 // Each line as it stands, and what its packet gives.
-fn read_edges(s: &[u8]) {
+fn read_edges(stdout: &impl Print, s: &[u8]) {
     let mut line = Line::new(false);
     let mut i = 0;
     while i < s.len() {
-        line = line.take(s[i]);
+        line = line.take(stdout, s[i]);
         i += 1;
     }
 }
 
 // ---- what is written
 
-fn show_written(number: u8, size: usize) {
+fn show_written(stdout: &impl Print, number: u8, size: usize) {
     if number == 0 {
-        show(WRITTEN, size as u64);
+        show(stdout, WRITTEN, size as u64);
     } else {
-        show(REFUSED, number as u64);
+        show(stdout, REFUSED, number as u64);
     }
 }
 
@@ -216,21 +220,21 @@ fn buffer() -> [u8; 131096]
     [0; 131096]
 }
 
-fn identifier_edge(data_size: usize) {
-    let data = io::large_buffer();
+fn identifier_edge(stdout: &impl Print, data_size: usize) {
+    let data = [0u8; 65536];
     let place = Block {
         start: 0,
         len: data_size,
     };
     let mut out = buffer();
-    show(IDENTIFIER_DATA, data_size as u64);
+    show(stdout, IDENTIFIER_DATA, data_size as u64);
     let put = Identifier::write_to_bytes(
         &mut out,
         0,
         IdentifierType::RDMManufacturerId,
         place.bytes(&data),
     );
-    show_written(put.number, put.at);
+    show_written(stdout, put.number, put.at);
 }
 
 // The first so many units; all where there are fewer.
@@ -279,50 +283,50 @@ fn give(out: &mut [u8], w: Writer, kind: Kind, count: usize) -> Written {
 }
 
 // What the last call gives; where it is taken, the packet closed and read.
-fn write(out: &mut [u8], kind: Kind, count: usize) {
+fn write(stdout: &impl Print, out: &mut [u8], kind: Kind, count: usize) {
     let w = Writer::new().open(out, kind, 0, 0).writer;
     let given = give(out, w, kind, count);
     let w = given.writer;
-    show_written(given.number, w.at);
+    show_written(stdout, given.number, w.at);
     if given.number == 0 {
         w.close(out);
-        read(out);
+        read(stdout, out);
     }
 }
 
-fn packet_edge(items: Label, kind: Kind, count: usize, room: usize)
+fn packet_edge(stdout: &impl Print, items: Label, kind: Kind, count: usize, room: usize)
     requires { room ≤ 131096 }
 {
     let mut out = buffer();
-    show(items, count as u64);
-    show(ROOM, room as u64);
-    write(&mut out[0..room], kind, count);
+    show(stdout, items, count as u64);
+    show(stdout, ROOM, room as u64);
+    write(stdout, &mut out[0..room], kind, count);
 }
 
-fn write_edges() {
+fn write_edges(stdout: &impl Print) {
     // Scope, 'Edges': an identifier 05 00 00 has no data. 'Where a call stops': 12 where a block is too long for its count field.
-    identifier_edge(0);
-    identifier_edge(65535);
-    identifier_edge(65536);
+    identifier_edge(stdout, 0);
+    identifier_edge(stdout, 65535);
+    identifier_edge(stdout, 65536);
     // 'Edges': 65,535 capabilities are written, 65,536 are 12. A packet of the first has 24 + 2 + 131,070 bytes.
-    packet_edge(CAPABILITIES, Kind::Capa, 65535, 131096);
-    packet_edge(CAPABILITIES, Kind::Capa, 65536, 131096);
+    packet_edge(stdout, CAPABILITIES, Kind::Capa, 65535, 131096);
+    packet_edge(stdout, CAPABILITIES, Kind::Capa, 65536, 131096);
     // 'Where a call stops': 13 where the output is shorter than the place after the call, and 12 before 13.
-    packet_edge(CAPABILITIES, Kind::Capa, 65535, 131095);
-    packet_edge(CAPABILITIES, Kind::Capa, 65536, 131095);
+    packet_edge(stdout, CAPABILITIES, Kind::Capa, 65535, 131095);
+    packet_edge(stdout, CAPABILITIES, Kind::Capa, 65536, 131095);
     // 'Edges': 256 laser feed names are 12. A packet of 255 has 24 + 5 + 255 * 4 bytes.
-    packet_edge(FEED_NAMES, Kind::LaserFeedList, 255, 1049);
-    packet_edge(FEED_NAMES, Kind::LaserFeedList, 256, 1049);
+    packet_edge(stdout, FEED_NAMES, Kind::LaserFeedList, 255, 1049);
+    packet_edge(stdout, FEED_NAMES, Kind::LaserFeedList, 256, 1049);
     // The count of points is a u16. They are not given, so the close is refused, and the size field that is read is 0.
-    packet_edge(POINTS, Kind::LaserFeedFrame, 65535, 35);
-    packet_edge(POINTS, Kind::LaserFeedFrame, 65536, 35);
+    packet_edge(stdout, POINTS, Kind::LaserFeedFrame, 65535, 35);
+    packet_edge(stdout, POINTS, Kind::LaserFeedFrame, 65536, 35);
     // Requests, 'Names that fit the display': at most 255 units or bytes, frame_names 65,535; a longer one is 19, and 19 before 13.
-    packet_edge(SHOW_NAME, Kind::EnterShow, 255, 536);
-    packet_edge(SHOW_NAME, Kind::EnterShow, 256, 536);
-    packet_edge(PEER_NAME, Kind::PNam, 255, 280);
-    packet_edge(PEER_NAME, Kind::PNam, 256, 280);
-    packet_edge(FRAME_NAMES, Kind::Fram, 65535, 65564);
-    packet_edge(FRAME_NAMES, Kind::Fram, 65536, 65564);
+    packet_edge(stdout, SHOW_NAME, Kind::EnterShow, 255, 536);
+    packet_edge(stdout, SHOW_NAME, Kind::EnterShow, 256, 536);
+    packet_edge(stdout, PEER_NAME, Kind::PNam, 255, 280);
+    packet_edge(stdout, PEER_NAME, Kind::PNam, 256, 280);
+    packet_edge(stdout, FRAME_NAMES, Kind::Fram, 65535, 65564);
+    packet_edge(stdout, FRAME_NAMES, Kind::Fram, 65536, 65564);
 }
 
 // ---- packets that a receiver does not support
@@ -335,45 +339,46 @@ CITP\x01\x00\x00\x00\x14\x00\x00\x00\x01\x00\x00\x00MSEX\
 CITP\x01\x00\x00\x00\x1B\x00\x00\x00\x01\x00\x00\x00SDMXSXUS\x03A\x00\
 CITP\x01\x00\x00\x00\x1A\x00\x00\x00\x01\x00\x00\x00SDMXChLs\x00\x00";
 
-fn show_offsets(offsets: &[usize]) {
+fn show_offsets(stdout: &impl Print, offsets: &[usize]) {
     let mut k = 0;
     while k < offsets.len() {
-        show(OFFSET, offsets[k] as u64);
+        show(stdout, OFFSET, offsets[k] as u64);
         k += 1;
     }
 }
 
 // What is answered on a list, and what it holds afterwards.
-fn list_edge(capabilities: &[u16], offsets: &mut [usize]) {
+fn list_edge(stdout: &impl Print, capabilities: &[u16], offsets: &mut [usize]) {
     let sent = SENT;
-    show(PLACES, offsets.len() as u64);
+    show(stdout, PLACES, offsets.len() as u64);
     let answer = list_unsupported(capabilities, &sent, offsets);
     if answer.number != 0 {
-        show(REFUSED, answer.number as u64);
+        show(stdout, REFUSED, answer.number as u64);
     }
-    show(COUNT, answer.count as u64);
-    show(STOP, answer.stop as u64);
-    show_offsets(offsets);
+    show(stdout, COUNT, answer.count as u64);
+    show(stdout, STOP, answer.stop as u64);
+    show_offsets(stdout, offsets);
 }
 
-fn list_edges() {
+fn list_edges(stdout: &impl Print) {
     // Requests, 'Capabilities before channel lists': a list too short is 13 and keeps everything.
-    list_edge(&[], &mut [9; 0]);
-    list_edge(&[], &mut [9; 2]);
+    list_edge(stdout, &[], &mut [9; 0]);
+    list_edge(stdout, &[], &mut [9; 2]);
     // Else it keeps its remainder: one that is counted for first, and one that is always long enough.
-    list_edge(&[], &mut [9; 3]);
-    list_edge(&[2, 101], &mut [9; 4]);
-    list_edge(&[], &mut [9; 6]);
+    list_edge(stdout, &[], &mut [9; 3]);
+    list_edge(stdout, &[2, 101], &mut [9; 4]);
+    list_edge(stdout, &[], &mut [9; 6]);
     // ChLs if 1 is absent, Sxus if 3 is absent.
-    list_edge(&[2, 1], &mut [9; 1]);
-    list_edge(&[3, 103], &mut [9; 3]);
-    list_edge(&[3, 1], &mut [9; 0]);
+    list_edge(stdout, &[2, 1], &mut [9; 1]);
+    list_edge(stdout, &[3, 103], &mut [9; 3]);
+    list_edge(stdout, &[3, 1], &mut [9; 0]);
 }
 
-fn main() {
-    let mut input = io::large_buffer();
-    let n = io::read_full(STDIN_FILENO, &mut input);
-    read_edges(&input[..n]);
-    write_edges();
-    list_edges();
+fn main(rt: HostRuntime) {
+    let stdout = rt.stdout();
+    let mut input = [0u8; 65536];
+    let n = read_full(&mut rt.stdin(), &mut input);
+    read_edges(&stdout, &input[..n]);
+    write_edges(&stdout);
+    list_edges(&stdout);
 }

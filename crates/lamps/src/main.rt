@@ -3,36 +3,36 @@
 
 use citp::{Cursor, Message, PacketReport, Report, Step};
 use fixture::{Fixture, Fixtures, FixturesNext};
-use libc::{STDIN_FILENO, STDOUT_FILENO};
+use intake::read_full;
 
-fn text(s: &[u8]) {
-    io::write_all(STDOUT_FILENO, s);
+fn text(stdout: &impl Print, s: &[u8]) {
+    let _ = stdout.write_all(s);
 }
 
-fn decimal(key: &[u8], n: u64) {
-    text(key);
-    io::print_decimal(STDOUT_FILENO, n);
+fn decimal(stdout: &impl Print, key: &[u8], n: u64) {
+    text(stdout, key);
+    let _ = stdout.print(n);
 }
 
-fn show_lamp(lamp: Fixture) {
+fn show_lamp(stdout: &impl Print, lamp: Fixture) {
     let data = lamp.data;
-    decimal(b"lamp=", lamp.fixture_identifier as u64);
-    decimal(b" patched=", data.patched as u64);
-    decimal(b" universe=", data.universe as u64);
-    decimal(b" channel=", data.universe_channel as u64);
-    decimal(b" channels=", lamp.channel_count as u64);
-    text(b"\n");
+    decimal(stdout, b"lamp=", lamp.fixture_identifier as u64);
+    decimal(stdout, b" patched=", data.patched as u64);
+    decimal(stdout, b" universe=", data.universe as u64);
+    decimal(stdout, b" channel=", data.universe_channel as u64);
+    decimal(stdout, b" channels=", lamp.channel_count as u64);
+    text(stdout, b"\n");
 }
 
 // The bound is above any count.
-fn show_lamps(list: Fixtures, body: &[u8]) {
+fn show_lamps(stdout: &impl Print, list: Fixtures, body: &[u8]) {
     let mut rest = list;
     let mut count: u64 = 0;
     while count < 65536 {
         let FixturesNext::Item(lamp, more) = rest.next(body) else {
             return;
         };
-        show_lamp(lamp);
+        show_lamp(stdout, lamp);
         rest = more;
         count += 1;
     }
@@ -54,33 +54,33 @@ fn fixtures_of(p: PacketReport) -> Fixtures {
     list.fixtures
 }
 
-fn show_end(packets: u64, number: u8) {
-    decimal(b"packets=", packets);
-    decimal(b" stop=", number as u64);
-    text(b"\n");
+fn show_end(stdout: &impl Print, packets: u64, number: u8) {
+    decimal(stdout, b"packets=", packets);
+    decimal(stdout, b" stop=", number as u64);
+    text(stdout, b"\n");
 }
 
 // A packet has 20 bytes or more, so the stream ends before the bound.
-fn walk(s: &[u8]) {
+fn walk(stdout: &impl Print, s: &[u8]) {
     let mut c = Cursor::new();
     let mut packets: u64 = 0;
     while packets < 65536 {
         match c.step(s) {
             Step::Packet(p, next) => {
-                show_lamps(fixtures_of(p), p.body(s));
+                show_lamps(stdout, fixtures_of(p), p.body(s));
                 c = next;
                 packets += 1;
             }
             Step::End(number, _) => {
-                show_end(packets, number);
+                show_end(stdout, packets, number);
                 return;
             }
         }
     }
 }
 
-fn main() {
-    let mut stream = io::large_buffer();
-    let n = io::read_full(STDIN_FILENO, &mut stream);
-    walk(&stream[..n]);
+fn main(rt: HostRuntime) {
+    let mut stream = [0u8; 65536];
+    let n = read_full(&mut rt.stdin(), &mut stream);
+    walk(&rt.stdout(), &stream[..n]);
 }

@@ -1,5 +1,5 @@
-// Replays a stored sample of the Rust's answers from standard input (differential/sample makes it): each body is read again, and the fields and
-// bytes taken, or the number of the refusal, are compared with the Rust's answer.
+// Replays a stored sample of the Rust's answers from standard input (differential/sample makes it): each body is read again, and the fields
+// and bytes taken, or the number of the refusal, are compared with the Rust's answer.
 #![tactic(auto)]
 
 mod answers;
@@ -8,7 +8,8 @@ mod compared;
 ghost use Rattle.std.specs.Prelude.{◌≤◌};
 
 use answers::Answer;
-use libc::{STDIN_FILENO, STDOUT_FILENO};
+use intake::read_full;
+use std::io::Read;
 use wire::Block;
 
 // The bodies that were read, that were refused, and whose answer is not the one that is due.
@@ -108,24 +109,24 @@ fn replay(tally: Tally, record: &[u8]) -> Tally {
 
 // ---- text
 
-fn decimal(key: &[u8], n: u64) {
-    io::write_all(STDOUT_FILENO, key);
-    io::print_decimal(STDOUT_FILENO, n);
+fn decimal(stdout: &impl Print, key: &[u8], n: u64) {
+    let _ = stdout.write_all(key);
+    let _ = stdout.print(n);
 }
 
-fn show(tally: Tally) {
-    decimal(b"read=", tally.read);
-    decimal(b" refused=", tally.refused);
-    decimal(b" differ=", tally.differ);
-    io::write_all(STDOUT_FILENO, b"\n");
+fn show(stdout: &impl Print, tally: Tally) {
+    decimal(stdout, b"read=", tally.read);
+    decimal(stdout, b" refused=", tally.refused);
+    decimal(stdout, b" differ=", tally.differ);
+    let _ = stdout.write_all(b"\n");
 }
 
 // ---- the sample
 
 // The length of the next record, 0 at the sample's end.
-fn record_length() -> usize {
+fn record_length(stdin: &mut impl Read) -> usize {
     let mut head = [0u8; 2];
-    if io::read_full(STDIN_FILENO, &mut head) < 2 {
+    if read_full(stdin, &mut head) < 2 {
         return 0;
     }
     low_high(head[0], head[1])
@@ -139,17 +140,17 @@ struct Replayed {
 }
 
 // The next record into the first bytes of the buffer; its length.
-fn next_record(buffer: &mut [u8]) -> usize {
-    let n = record_length();
+fn next_record(stdin: &mut impl Read, buffer: &mut [u8]) -> usize {
+    let n = record_length(stdin);
     if buffer.len() < n {
         return 0;
     }
-    io::read_full(STDIN_FILENO, &mut buffer[..n])
+    read_full(stdin, &mut buffer[..n])
 }
 
-fn replay_next(tally: Tally) -> Replayed {
-    let mut buffer = io::large_buffer();
-    let n = next_record(&mut buffer);
+fn replay_next(stdin: &mut impl Read, tally: Tally) -> Replayed {
+    let mut buffer = [0u8; 65536];
+    let n = next_record(stdin, &mut buffer);
     if n == 0 {
         return Replayed { tally, more: false };
     }
@@ -160,7 +161,8 @@ fn replay_next(tally: Tally) -> Replayed {
     }
 }
 
-fn main() {
+fn main(rt: HostRuntime) {
+    let mut stdin = rt.stdin();
     let mut tally = Tally {
         read: 0,
         refused: 0,
@@ -168,7 +170,7 @@ fn main() {
     };
     let mut records: u64 = 0;
     while records < 65536 {
-        let next = replay_next(tally);
+        let next = replay_next(&mut stdin, tally);
         tally = next.tally;
         if next.more {
             records += 1;
@@ -176,5 +178,5 @@ fn main() {
             break;
         }
     }
-    show(tally);
+    show(&rt.stdout(), tally);
 }

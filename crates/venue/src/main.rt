@@ -4,7 +4,6 @@
 
 use caex::{FixtureListMessageType, LaserPoint};
 use fixture::{FixtureData, FloatBits, IdentifierType};
-use libc::STDOUT_FILENO;
 use turns::Kind;
 use writer::{Writer, Written};
 
@@ -207,48 +206,54 @@ fn opened(out: &mut [u8], kind: Kind, content_hint: u32) -> Writer {
 }
 
 // Closes the packet and writes it out; a refused call leaves it unfinished, and nothing is written.
-fn send(out: &mut [u8], given: Written) {
+fn send(stdout: &impl Print, out: &mut [u8], given: Written) {
     let closed = given.writer.close(out);
     let at = closed.writer.at;
     if closed.number == 0 {
         if at <= out.len() {
-            io::write_all(STDOUT_FILENO, &out[0..at]);
+            let _ = stdout.write_all(&out[0..at]);
         }
     }
 }
 
-fn send_pnam(out: &mut [u8]) {
+fn send_pnam(stdout: &impl Print, out: &mut [u8]) {
     let given = opened(out, Kind::PNam, 0).pnam(out, b"Small rig desk");
-    send(out, given);
+    send(stdout, out, given);
 }
 
-fn send_enter_show(out: &mut [u8]) {
+fn send_enter_show(stdout: &impl Print, out: &mut [u8]) {
     // Small rig
     let given = opened(out, Kind::EnterShow, 0).enter_show(
         out,
         &[83, 109, 97, 108, 108, 32, 114, 105, 103],
     );
-    send(out, given);
+    send(stdout, out, given);
 }
 
-fn send_unam(out: &mut [u8], universe_index: u8, universe_name: &[u8]) {
+fn send_unam(stdout: &impl Print, out: &mut [u8], universe_index: u8, universe_name: &[u8]) {
     let given = opened(out, Kind::UNam, 0).unam(out, universe_index, universe_name);
-    send(out, given);
+    send(stdout, out, given);
 }
 
-fn send_sele(out: &mut [u8]) {
+fn send_sele(stdout: &impl Print, out: &mut [u8]) {
     let given = opened(out, Kind::Sele, 0).sele(
         out,
         1,
         0,
         &[1, 2, 3, 4, 5, 6, 7, 8, 9, 10, 11, 12],
     );
-    send(out, given);
+    send(stdout, out, given);
 }
 
-fn send_chbk(out: &mut [u8], universe_index: u8, first_channel: u16, levels: &[u8]) {
+fn send_chbk(
+    stdout: &impl Print,
+    out: &mut [u8],
+    universe_index: u8,
+    first_channel: u16,
+    levels: &[u8],
+) {
     let given = opened(out, Kind::ChBk, 0).chbk(out, 0, universe_index, first_channel, levels);
-    send(out, given);
+    send(stdout, out, given);
 }
 
 // ---- the fixture list
@@ -350,7 +355,7 @@ fn write_fixtures(out: &mut [u8], head: Written) -> Written {
     given
 }
 
-fn send_fixture_list(out: &mut [u8]) {
+fn send_fixture_list(stdout: &impl Print, out: &mut [u8]) {
     let w = opened(out, Kind::FixtureList, 0);
     let head = w.fixture_list_head(
         out,
@@ -358,7 +363,7 @@ fn send_fixture_list(out: &mut [u8]) {
         LAMPS as usize,
     );
     let given = write_fixtures(out, head);
-    send(out, given);
+    send(stdout, out, given);
 }
 
 // ---- the patch
@@ -368,7 +373,7 @@ fn content_hint(lamp: Lamp) -> u32 {
     if lamp.number < LAMPS { 1 } else { 2 }
 }
 
-fn send_ptch(out: &mut [u8], lamp: Lamp) {
+fn send_ptch(stdout: &impl Print, out: &mut [u8], lamp: Lamp) {
     let make = name_of(lamp.row, MAKE);
     let name = name_of(lamp.row, NAME);
     let given = opened(out, Kind::Ptch, content_hint(lamp)).ptch(
@@ -381,32 +386,33 @@ fn send_ptch(out: &mut [u8], lamp: Lamp) {
         start(&make.bytes, make.len),
         start(&name.bytes, name.len),
     );
-    send(out, given);
+    send(stdout, out, given);
 }
 
-fn send_patch(out: &mut [u8]) {
+fn send_patch(stdout: &impl Print, out: &mut [u8]) {
     let mut n: u16 = 0;
     while n < LAMPS {
-        send_ptch(out, lamp_at(n));
+        send_ptch(stdout, out, lamp_at(n));
         n += 1;
     }
 }
 
-fn send_universes(out: &mut [u8]) {
-    send_unam(out, 0, b"Dimmers and wash");
-    send_unam(out, 1, b"Spots and beams");
+fn send_universes(stdout: &impl Print, out: &mut [u8]) {
+    send_unam(stdout, out, 0, b"Dimmers and wash");
+    send_unam(stdout, out, 1, b"Spots and beams");
 }
 
 // The front dimmers at 70 %, the first MAC Aura open in amber, the second universe dark.
-fn send_levels(out: &mut [u8]) {
-    send_chbk(out, 0, 0, &[178; 12]);
+fn send_levels(stdout: &impl Print, out: &mut [u8]) {
+    send_chbk(stdout, out, 0, 0, &[178; 12]);
     send_chbk(
+        stdout,
         out,
         0,
         20,
         &[30, 255, 128, 128, 0, 128, 0, 0, 0, 255, 120, 0, 0, 0],
     );
-    send_chbk(out, 1, 0, &[0; 376]);
+    send_chbk(stdout, out, 1, 0, &[0; 376]);
 }
 
 // ---- the laser controller
@@ -414,14 +420,14 @@ fn send_levels(out: &mut [u8]) {
 // In its list and in its frames.
 const SOURCE_KEY: u32 = 0x4C415331;
 
-fn send_laser_feed_list(out: &mut [u8]) {
+fn send_laser_feed_list(stdout: &impl Print, out: &mut [u8]) {
     let w = opened(out, Kind::LaserFeedList, 0);
     let head = w.laser_feed_list_head(out, SOURCE_KEY, 2);
     // Wall
     let wall = head.writer.feed_name(out, &[87, 97, 108, 108]);
     // Haze
     let given = wall.writer.feed_name(out, &[72, 97, 122, 101]);
-    send(out, given);
+    send(stdout, out, given);
 }
 
 // In green; x and y have 12 bits.
@@ -446,22 +452,23 @@ fn write_triangle(out: &mut [u8], w: Writer) -> Written {
 }
 
 // The first frame on the wall.
-fn send_laser_feed_frame(out: &mut [u8]) {
+fn send_laser_feed_frame(stdout: &impl Print, out: &mut [u8]) {
     let w = opened(out, Kind::LaserFeedFrame, 0);
     let head = w.laser_feed_frame_head(out, SOURCE_KEY, 0, 0, 4);
     let given = write_triangle(out, head.writer);
-    send(out, given);
+    send(stdout, out, given);
 }
 
-fn main() {
-    let mut out = io::large_buffer();
-    send_pnam(&mut out);
-    send_enter_show(&mut out);
-    send_universes(&mut out);
-    send_fixture_list(&mut out);
-    send_patch(&mut out);
-    send_sele(&mut out);
-    send_levels(&mut out);
-    send_laser_feed_list(&mut out);
-    send_laser_feed_frame(&mut out);
+fn main(rt: HostRuntime) {
+    let stdout = rt.stdout();
+    let mut out = [0u8; 65536];
+    send_pnam(&stdout, &mut out);
+    send_enter_show(&stdout, &mut out);
+    send_universes(&stdout, &mut out);
+    send_fixture_list(&stdout, &mut out);
+    send_patch(&stdout, &mut out);
+    send_sele(&stdout, &mut out);
+    send_levels(&stdout, &mut out);
+    send_laser_feed_list(&stdout, &mut out);
+    send_laser_feed_frame(&stdout, &mut out);
 }
