@@ -1,1 +1,3 @@
+#![tactic(auto)]
+
 // The names of kinds and fields in a listing: definitions stand in specs/, laws in proofs/.

@@ -71,12 +71,12 @@ pub record Fits (e : Entry) : Type 0 where
   pub inside : channel e + channel_count e ≤ 512
 
 -- what holding a channel says
-record Has (u c : ℕ) (e : Entry) : Type 0 where
+pub record Has (u c : ℕ) (e : Entry) : Type 0 where
   pub there-in : universe e ≡ u
   pub from : channel e ≤ c
   pub to : c < end e
 
-has : (u c : ℕ) (e : Entry) → holds u c e ≡ true → Has u c e
+pub has : (u c : ℕ) (e : Entry) → holds u c e ≡ true → Has u c e
 has u c e t =
     let a = both (eqb (universe e) u) (spans e c) t in
     let b = both (leb (channel e) c) (ltb c (end e)) a.1 in

@@ -4,6 +4,7 @@ pub mod Fields
 pub mod Lists
 pub mod Loops
 pub mod Entries
+pub mod Placed
 pub mod Order
 pub mod Unpatched
 pub mod Theorem

@@ -14,7 +14,7 @@ use Rattle.patching.specs.Claims as claims
 use Rattle.patching.specs.Claims.{Lower, held_after}
 use Rattle.patching.proofs.Fields.{entry_whole}
 use Rattle.patching.proofs.Lists.{in-length, first_one}
-use Rattle.patching.proofs.Theorem.{patch-book}
+use Rattle.patching.proofs.Theorem.{patch-book, book-rises}
 
 -- ---- one rising listing of each set
 
@@ -61,7 +61,7 @@ same-listing c d vs ws e g ms ns a b s =
     let l : List Entry = held_after ns d ws in
     sym (all_whole k)
     ∙ ap (map entry_of)
-    (one-listing (map fields k) (map fields l) p.rising q.rising
+    (one-listing (map fields k) (map fields l) (book-rises c vs e ms) (book-rises d ws g ns)
     (λ f. (λ i. (q.exactly f).1 ((s f).0 ((p.exactly f).0 i)), λ i. (p.exactly f).1 ((s f).1 ((q.exactly f).0 i)))))
     ∙ all_whole l
 

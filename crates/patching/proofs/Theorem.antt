@@ -340,14 +340,16 @@ module _ (o : Key → Option Fields) where
 
 -- ---- the promises
 
+good-feed : (count : ℕ) (ws : List Entry) → held count ws ≡ [] → (ms : List Message) → Good (held_after ms count ws)
+good-feed count ws e ms = over Good good_apply ms count ws (subst Good (sym e) (record { fit = tt; apart = tt; rising = tt }))
+
 pub patch-book : claims.PatchBook
 patch-book count ws e ms a =
     let l : List Entry = held_after ms count ws in
-    let g : Good l = over Good good_apply ms count ws (subst Good (sym e) (record { fit = tt; apart = tt; rising = tt })) in
+    let g : Good l = good-feed count ws e ms in
     let t : Tells l (λ k. standing k ms count ws none) =
     tells-feed ms a count ws (λ k. none) (subst (λ (k : List Entry). Tells k (λ k. none)) (sym e) nothing) in record {
       exactly = λ f. (of_map fields (λ h. standing (key h) ms count ws none ≡ some h) l t.held-stands, t.stands-held f);
-      rising = pairs-mapped fields Lower l g.rising;
       once = once (λ k. standing k ms count ws none) l t.held-stands g.fit g.apart;
       fit = all_map fits-span l g.fit;
       at_most = omega (arith, held_fits (feed ms count ws).0 (feed ms count ws).1);
@@ -356,3 +358,6 @@ patch-book count ws e ms a =
       free = free-means l;
       none_free = none-means l;
     }
+
+pub book-rises : claims.BookRises
+book-rises count ws e ms = pairs-mapped fields Lower (held_after ms count ws) (good-feed count ws e ms).rising

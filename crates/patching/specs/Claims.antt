@@ -70,9 +70,7 @@ Rising fs = Pairs Lower fs
 -- of the entries l that a book holds after a list of messages, from an empty one; `last` is what they leave each fixture with
 pub record Promises (last : Key → Option Fields) (l : List Entry) : Type 0 where
   -- exactly the four fields of each fixture's last accepted Ptch that no later UPtc dropped, by name or by clearing
-  pub exactly : SameSet (λ f. In f (map fields l)) (EndsIn last)
-  -- in rising order, and so each once
-  pub rising : Rising (map fields l)
+  pub exactly : (f : Fields) → (In f (map fields l) → last (key f) ≡ some f) × (last (key f) ≡ some f → In f (map fields l))
   pub at_most : length l ≤ 256
   -- each fixture once, and each with a span that fits its universe
   pub once : Pairs (λ x y. same x y ≡ false) l
@@ -91,6 +89,10 @@ PatchBook = (count : ℕ) (ws : List Entry) → held count ws ≡ [] → (ms : L
     → Promises (λ k. standing k ms count ws none) (held_after ms count ws)
 
 -- ---- the listing
+
+-- book-rises (Theorem): over every list of bodies the entries held stand in rising order, and so each once
+abbrev pub BookRises : Type 0
+BookRises = (count : ℕ) (ws : List Entry) → held count ws ≡ [] → (ms : List Message) → Rising (map fields (held_after ms count ws))
 
 -- listed-at (Listing): of any entries the one that has k ahead of it is the k-th listed, and behind the last there is none
 abbrev pub ListedAt : Type 0

@@ -1,1 +1,3 @@
+#![tactic(auto)]
+
 // The patch book: definitions and laws stand in specs/.

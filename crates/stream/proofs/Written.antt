@@ -16,7 +16,7 @@ use Rattle.protocol.specs.Message.{Message, headers_of, packet_size, packet, Sen
 use Rattle.protocol.proofs.Headers.{length-headers, size-stored, size-read}
 use Rattle.writing.specs.Call.{Call, opens, give, closes, Typed, bytes_of, zero_in, over_limit_in, too_long_in, part_bytes, parts_of, calls_of}
 use Rattle.writing.specs.Writer.{Turn, idle, body_due, items_due, parts_due, is_idle, is_close, Writer, Outcome, Progress, noted, note, step, run, settled}
-use Rattle.writing.proofs.Taken.{Taken, taken, call-cases}
+use Rattle.writing.proofs.Taken.{Taken, call-cases}
 use Rattle.stream.specs.Accepted.{after, closing, size_in, closed_bytes}
 use Rattle.stream.specs.Claims as claims
 use Rattle.writing.proofs.Parts.{FinePart, parts-bytes, parts-valid}

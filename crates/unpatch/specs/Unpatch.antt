@@ -1,5 +1,5 @@
 -- The identifiers that an unpatch lists, and the bits by which it finds the entries to drop.
-use Rattle.std.specs.Prelude.{◌≡◌, ℕ, ◌+◌, ◌-◌, ◌*◌, ◌/◌, ◌%◌, ◌^◌, ◌<◌, ◌≤◌, Bool, ◌&&◌, List, ◌++◌, length, take, drop, set, ◌==◌, bit_or, nat_le, nat_lt, slice_index, slice_set}
+use Rattle.std.specs.Prelude.{◌≡◌, ℕ, ◌+◌, ◌-◌, ◌*◌, ◌/◌, ◌%◌, ◌^◌, ◌<◌, ◌≤◌, Bool, ◌&&◌, List, ◌++◌, length, take, drop, ◌==◌, bit_or, nat_le, nat_lt, slice_index, slice_set}
 use Rattle.format.specs.View.{units_of}
 use Rattle.patching.specs.Bits.{packs}
 use Rattle.patching.specs.Entry.{Entry, identifier}

@@ -1,9 +1,7 @@
-use Prim.Native.Nat.{◌-◌}
 use mathlib.Core.Path.{sym, ap, ◌∙◌}
 use mathlib.Core.Bool.{not}
 use native.Mathlib.Omega.{arith}
-use Rattle.patching.specs.Entry.{same}
-use Rattle.patching.proofs.Loops.{Keeping, keep-start, keep-drop, keep-next, keep-end}
+use Rattle.patching.proofs.Loops.{keep-start, keep-drop, keep-next, keep-end}
 use Rattle.book.proofs.drop_own.Goals as goal
 
 pub loop-i-init : goal.loop-i-init

@@ -1,5 +1,4 @@
 use native.Mathlib.Omega.{arith}
-use borrow.Author.Rules.{rules}
 use Rattle.book.proofs.Scan.{ahead-length, found-clash, found}
 use Rattle.book.proofs.find.Goals as goal
 

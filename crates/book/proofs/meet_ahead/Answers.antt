@@ -1,8 +1,7 @@
-use Prim.Native.Nat.{◌-◌}
 use mathlib.Core.Path.{sym, ◌∙◌}
 use native.Mathlib.Omega.{arith}
-use lib.ListN.{length, length-take}
-use Rattle.book.proofs.Scan.{Reached, reach-start, reach-own, reach-other, reach-before, reach-clash, reach-end}
+use lib.ListN.{length-take}
+use Rattle.book.proofs.Scan.{reach-start, reach-own, reach-other, reach-before, reach-clash, reach-end}
 use Rattle.book.proofs.meet_ahead.Goals as goal
 
 pub loop-i-init : goal.loop-i-init

@@ -1,8 +1,6 @@
 use Prim.Native.Nat.{◌-◌}
-use mathlib.Core.Path.{sym, ◌∙◌}
-use native.Mathlib.Omega.{arith}
-use lib.ListN.{length, length-take}
-use Rattle.book.proofs.Scan.{Reached, reach-start, reach-own, reach-other, reach-before, reach-clash, reach-end}
+use lib.ListN.{length}
+use Rattle.book.proofs.Scan.{Reached}
 use Rattle.book.proofs.meet_ahead.Given as goal
 
 abbrev pub invariant-loop-i : goal.invariant-loop-i

@@ -1,8 +1,7 @@
-use Prim.Native.Nat.{◌-◌}
 use mathlib.Core.Path.{refl, sym, ◌∙◌}
 use native.Mathlib.Omega.{arith}
-use lib.ListN.{length, length-take}
-use Rattle.book.proofs.Scan.{Passed, pass-own, pass-other, pass-clash, pass-end}
+use lib.ListN.{length-take}
+use Rattle.book.proofs.Scan.{pass-own, pass-other, pass-clash, pass-end}
 use Rattle.book.proofs.meet_behind.Goals as goal
 
 pub loop-i-init : goal.loop-i-init

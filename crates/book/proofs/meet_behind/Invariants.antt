@@ -1,8 +1,6 @@
 use Prim.Native.Nat.{◌-◌}
-use mathlib.Core.Path.{refl, sym, ◌∙◌}
-use native.Mathlib.Omega.{arith}
-use lib.ListN.{length, length-take}
-use Rattle.book.proofs.Scan.{Passed, pass-own, pass-other, pass-clash, pass-end}
+use lib.ListN.{length}
+use Rattle.book.proofs.Scan.{Passed}
 use Rattle.book.proofs.meet_behind.Given as goal
 
 abbrev pub invariant-loop-i : goal.invariant-loop-i

@@ -3,7 +3,6 @@ use mathlib.Core.Path.{◌≡◌, ap, ◌∙◌}
 use mathlib.Core.List.{List}
 use native.Mathlib.Omega.{arith}
 use lib.ListN.{length, take}
-use borrow.Author.Rules.{rules}
 use Rattle.patching.specs.Entry.{Entry}
 use Rattle.patching.specs.Book.{others, overwrite}
 use Rattle.book.specs.Scan.{remove_at}

@@ -1,4 +1,3 @@
-use borrow.Author.Rules.{rules}
 use Rattle.book.specs.declared.Listed.{Listed}
 use Rattle.bridge_book.specs.Answer.{flat_entry}
 use Rattle.plain.proofs.Told.{told}

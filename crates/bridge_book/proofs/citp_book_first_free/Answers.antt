@@ -1,4 +1,3 @@
-use borrow.Author.Rules.{rules}
 use Rattle.channels.specs.declared.FirstFree.{FirstFree}
 use Rattle.bridge_book.specs.Answer.{flat_free}
 use Rattle.plain.proofs.Told.{told}

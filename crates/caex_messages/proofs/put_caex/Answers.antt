@@ -1,4 +1,3 @@
-use borrow.Author.Rules.{rules}
 use Rattle.names.proofs.Messages.{put-case}
 use Rattle.caex.specs.Says.{message_kind, message_view}
 use Rattle.caex_messages.proofs.put_caex.Goals as goal

@@ -1,7 +1,4 @@
-use Rattle.text.proofs.Loops.{Onto}
-use Rattle.lines.specs.Lines.{item_lines}
 use Rattle.lines.proofs.Loops.{needs}
-use Rattle.names.specs.Names as names
 use Rattle.caex_messages.proofs.Items.{feed-names}
 use Rattle.caex_messages.proofs.put_feed_name_items.Goals as goal
 

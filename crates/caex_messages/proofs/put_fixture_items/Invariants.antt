@@ -1,8 +1,6 @@
 use Rattle.text.proofs.Loops.{Onto}
 use Rattle.lines.specs.Lines.{item_lines}
-use Rattle.lines.proofs.Loops.{needs}
 use Rattle.names.specs.Names as names
-use Rattle.caex_messages.proofs.Items.{fixtures}
 use Rattle.caex_messages.proofs.put_fixture_items.Given as goal
 
 abbrev pub invariant-loop-next : goal.invariant-loop-next

@@ -1,4 +1,3 @@
-use borrow.Author.Rules.{rules}
 use Rattle.caex_messages.proofs.Floats.{vectors}
 use Rattle.caex_messages.proofs.put_floats.Goals as goal
 

@@ -1,4 +1,3 @@
-use borrow.Author.Rules.{rules}
 use Rattle.lines.proofs.Fields.{fields}
 use Rattle.caex_messages.proofs.put_from_mode.Goals as goal
 

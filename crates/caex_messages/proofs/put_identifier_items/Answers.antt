@@ -1,7 +1,4 @@
-use Rattle.text.proofs.Loops.{Onto}
-use Rattle.lines.specs.Lines.{item_lines}
 use Rattle.lines.proofs.Loops.{needs}
-use Rattle.names.specs.Names as names
 use Rattle.caex_messages.proofs.Items.{identifiers}
 use Rattle.caex_messages.proofs.put_identifier_items.Goals as goal
 

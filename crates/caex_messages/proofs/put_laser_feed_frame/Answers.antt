@@ -1,4 +1,3 @@
-use borrow.Author.Rules.{rules}
 use Rattle.names.proofs.Messages.{messages}
 use Rattle.caex_messages.proofs.put_laser_feed_frame.Goals as goal
 

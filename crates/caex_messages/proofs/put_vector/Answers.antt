@@ -1,4 +1,3 @@
-use borrow.Author.Rules.{rules}
 use Rattle.text.proofs.Prints.{put_then}
 use Rattle.caex_messages.proofs.put_vector.Goals as goal
 

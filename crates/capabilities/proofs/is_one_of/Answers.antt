@@ -1,6 +1,4 @@
-use Prim.Native.Nat.{◌-◌}
-use lib.ListN.{length}
-use Rattle.capabilities.proofs.Messages.{looked, Looking}
+use Rattle.capabilities.proofs.Messages.{looked}
 use Rattle.capabilities.proofs.is_one_of.Goals as goal
 
 pub loop-i-init : goal.loop-i-init

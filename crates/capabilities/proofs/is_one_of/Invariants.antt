@@ -1,6 +1,6 @@
 use Prim.Native.Nat.{◌-◌}
 use lib.ListN.{length}
-use Rattle.capabilities.proofs.Messages.{looked, Looking}
+use Rattle.capabilities.proofs.Messages.{Looking}
 use Rattle.capabilities.proofs.is_one_of.Given as goal
 
 abbrev pub invariant-loop-i : goal.invariant-loop-i

@@ -1,7 +1,4 @@
-use Prim.Native.Nat.{◌-◌}
-use lib.ListN.{length}
-use Rattle.capabilities.specs.Support.{lacked_by}
-use Rattle.capabilities.proofs.Walks.{walks, Walking}
+use Rattle.capabilities.proofs.Walks.{walks}
 use Rattle.capabilities.proofs.walk.Goals as goal
 
 pub loop-p-init : goal.loop-p-init

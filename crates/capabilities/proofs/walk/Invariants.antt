@@ -1,7 +1,7 @@
 use Prim.Native.Nat.{◌-◌}
 use lib.ListN.{length}
 use Rattle.capabilities.specs.Support.{lacked_by}
-use Rattle.capabilities.proofs.Walks.{walks, Walking}
+use Rattle.capabilities.proofs.Walks.{Walking}
 use Rattle.capabilities.proofs.walk.Given as goal
 
 abbrev pub invariant-loop-p : goal.invariant-loop-p

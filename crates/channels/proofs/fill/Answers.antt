@@ -1,5 +1,5 @@
 use native.Mathlib.Omega.{arith}
-use Rattle.std.proofs.Common.{◌≡◌, ℕ, ◌-◌, ◌≤◌, List, length, take, ap, ◌∙◌, arith, take_all}
+use Rattle.std.proofs.Common.{ℕ, List, ap, ◌∙◌, arith, take_all}
 use Rattle.patching.specs.Book.{taken_at, universe_words}
 use Rattle.channels.proofs.fill.Goals as goal
 

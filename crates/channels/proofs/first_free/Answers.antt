@@ -1,7 +1,7 @@
 use native.Mathlib.Omega.{arith}
-use Rattle.std.proofs.Common.{◌≡◌, ℕ, ◌+◌, ◌-◌, ◌*◌, ◌≤◌, Bool, not, sym, refl, ap, ◌∙◌, arith}
+use Rattle.std.proofs.Common.{◌≡◌, ℕ, ◌+◌, ◌*◌, Bool, not, sym, refl, ap, ◌∙◌, arith}
 use Rattle.patching.specs.Bits.{first}
-use Rattle.patching.specs.Book.{universe_words, taken_at, below}
+use Rattle.patching.specs.Book.{taken_at, below}
 use Rattle.channels.specs.Free.{free_of}
 use Rattle.channels.proofs.Blocks.{found, further}
 use Rattle.channels.proofs.first_free.Goals as goal

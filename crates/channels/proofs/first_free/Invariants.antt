@@ -1,8 +1,6 @@
-use Rattle.std.proofs.Common.{◌≡◌, ℕ, ◌+◌, ◌-◌, ◌*◌, ◌≤◌, Bool, not, sym, refl, ap, ◌∙◌, arith}
+use Rattle.std.proofs.Common.{◌≡◌, ℕ, ◌-◌, ◌*◌, ◌≤◌, Bool, not}
 use Rattle.patching.specs.Bits.{first}
-use Rattle.patching.specs.Book.{universe_words, taken_at, below}
-use Rattle.channels.specs.Free.{free_of}
-use Rattle.channels.proofs.Blocks.{found, further}
+use Rattle.patching.specs.Book.{universe_words}
 use Rattle.channels.proofs.first_free.Given as goal
 
 abbrev pub invariant-loop-k : goal.invariant-loop-k

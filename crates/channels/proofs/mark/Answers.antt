@@ -1,6 +1,6 @@
 use native.Mathlib.Omega.{arith}
-use Rattle.std.proofs.Common.{◌≡◌, ℕ, ◌+◌, ◌-◌, ◌*◌, ◌/◌, ◌%◌, ◌≤◌, Bool, ◌&&◌, ◌||◌, ltb, leb, get_or, take, refl, ◌∙◌, arith}
-use Rattle.patching.specs.Book.{taken_at, universe_words}
+use Rattle.std.proofs.Common.{ℕ, ◌+◌, ◌*◌, ◌/◌, ◌%◌, Bool, ◌&&◌, ◌||◌, ltb, leb, get_or, take, refl, ◌∙◌, arith}
+use Rattle.patching.specs.Book.{taken_at}
 use Rattle.patching.proofs.Fields.{count-lt}
 use Rattle.channels.proofs.Spans.{marked, none-marked, all-marked, longer, empty-span, span_of}
 use Rattle.channels.proofs.mark.Goals as goal

@@ -1,7 +1,5 @@
-use Rattle.std.proofs.Common.{◌≡◌, ℕ, ◌+◌, ◌-◌, ◌*◌, ◌/◌, ◌%◌, ◌≤◌, Bool, ◌&&◌, ◌||◌, ltb, leb, get_or, take, refl, ◌∙◌, arith}
+use Rattle.std.proofs.Common.{◌≡◌, ℕ, ◌-◌, ◌≤◌, ◌&&◌, ◌||◌, ltb, leb, take}
 use Rattle.patching.specs.Book.{taken_at, universe_words}
-use Rattle.patching.proofs.Fields.{count-lt}
-use Rattle.channels.proofs.Spans.{marked, none-marked, all-marked, longer, empty-span, span_of}
 use Rattle.channels.proofs.mark.Given as goal
 
 abbrev pub invariant-loop-from : goal.invariant-loop-from

@@ -1,5 +1,5 @@
 use native.Mathlib.Omega.{arith}
-use Rattle.std.proofs.Common.{◌<◌, arith, rules}
+use Rattle.std.proofs.Common.{◌<◌, arith}
 use Rattle.patching.specs.Entry.{channel}
 use Rattle.patching.proofs.Fields.{channel-lt}
 use Rattle.channels.proofs.offset.Goals as goal

@@ -1,6 +1,6 @@
 use native.Mathlib.Omega.{arith}
 use Rattle.channels.proofs.Spans.{span-pow}
-use Rattle.std.proofs.Common.{◌≡◌, ℕ, ◌-◌, ◌*◌, ◌%◌, ◌^◌, ◌<◌, ◌&&◌, ltb, leb, sym, ap, ◌∙◌, arith, pow_pos, shl_exact, rules}
+use Rattle.std.proofs.Common.{◌≡◌, ℕ, ◌-◌, ◌*◌, ◌%◌, ◌^◌, ◌<◌, ◌&&◌, ltb, leb, sym, ap, ◌∙◌, arith, pow_pos, shl_exact}
 use Rattle.patching.specs.Bits.{pack}
 use Rattle.channels.proofs.run.Goals as goal
 

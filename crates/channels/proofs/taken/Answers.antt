@@ -1,8 +1,8 @@
 use native.Mathlib.Omega.{arith}
-use Rattle.std.proofs.Common.{◌≡◌, ℕ, ◌+◌, ◌-◌, ◌*◌, ◌≤◌, Bool, get_or, sym, refl, ap, ◌∙◌, arith}
+use Rattle.std.proofs.Common.{◌≡◌, ℕ, ◌+◌, ◌*◌, Bool, get_or, sym, refl, ap, ◌∙◌, arith}
 use lib.Count.{ones}
 use Rattle.patching.specs.Bits.{many}
-use Rattle.patching.specs.Book.{universe_words, taken_at}
+use Rattle.patching.specs.Book.{taken_at}
 use Rattle.patching.proofs.Digits.{many-le}
 use Rattle.channels.proofs.Blocks.{ones-word}
 use Rattle.channels.proofs.taken.Goals as goal

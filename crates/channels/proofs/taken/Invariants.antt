@@ -1,9 +1,6 @@
-use Rattle.std.proofs.Common.{◌≡◌, ℕ, ◌+◌, ◌-◌, ◌*◌, ◌≤◌, Bool, get_or, sym, refl, ap, ◌∙◌, arith}
-use lib.Count.{ones}
+use Rattle.std.proofs.Common.{◌≡◌, ℕ, ◌-◌, ◌*◌, ◌≤◌, Bool}
 use Rattle.patching.specs.Bits.{many}
-use Rattle.patching.specs.Book.{universe_words, taken_at}
-use Rattle.patching.proofs.Digits.{many-le}
-use Rattle.channels.proofs.Blocks.{ones-word}
+use Rattle.patching.specs.Book.{universe_words}
 use Rattle.channels.proofs.taken.Given as goal
 
 abbrev pub invariant-loop-k : goal.invariant-loop-k

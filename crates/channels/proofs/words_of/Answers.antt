@@ -1,5 +1,5 @@
 use native.Mathlib.Omega.{arith}
-use Rattle.std.proofs.Common.{arith, rules}
+use Rattle.std.proofs.Common.{arith}
 use Rattle.channels.proofs.Spans.{none_yet}
 use Rattle.channels.proofs.words_of.Goals as goal
 

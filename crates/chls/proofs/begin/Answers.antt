@@ -1,4 +1,3 @@
-use borrow.Author.Rules.{rules}
 use Rattle.chls.proofs.Levels.{begin-taken, begin-refused}
 use Rattle.chls.proofs.begin.Goals as goal
 

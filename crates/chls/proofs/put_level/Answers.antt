@@ -1,4 +1,3 @@
-use borrow.Author.Rules.{rules}
 use Rattle.put.proofs.Bodies.{bodies}
 use Rattle.chls.proofs.put_level.Goals as goal
 

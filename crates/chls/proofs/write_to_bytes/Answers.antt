@@ -1,6 +1,6 @@
-use Rattle.std.proofs.Common.{◌≡◌, ◌<◌, ◌≤◌, length, arith, sym, refl, ◌∙◌}
+use Rattle.std.proofs.Common.{◌≡◌, ◌<◌, length, arith, ◌∙◌}
 use Rattle.chls.specs.Levels.{due}
-use Rattle.chls.proofs.Levels.{upto, upto-none, due-within, due-below, room_for, upto-more, write-is}
+use Rattle.chls.proofs.Levels.{upto-none, due-within, due-below, room_for, upto-more, write-is}
 use Rattle.chls.proofs.write_to_bytes.Goals as goal
 
 pub loop-i-init : goal.loop-i-init

@@ -1,5 +1,4 @@
 use mathlib.Core.Path.{refl}
-use borrow.Author.Rules.{rules}
 use Rattle.citp.proofs.LayerOf.{place_of, no_place}
 use Rattle.citp.proofs.body_place.Goals as goal
 

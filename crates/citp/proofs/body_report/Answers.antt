@@ -1,5 +1,4 @@
 use mathlib.Core.Path.{refl, ◌∙◌}
-use borrow.Author.Rules.{rules}
 use Rattle.protocol.specs.Layer.{PINF, SDMX, FSEL, FINF, CAEX}
 use Rattle.citp.proofs.Reports.{without-hint}
 use Rattle.citp.proofs.body_report.Goals as goal

@@ -1,5 +1,3 @@
-use borrow.Author.Rules.{rules}
-use borrow.Author.Tests.{not-true, not-false}
 use Rattle.format.proofs.Chain.{met}
 use Rattle.wire.specs.Says.{u32_says}
 use Rattle.layers.specs.Says.{layer_is}

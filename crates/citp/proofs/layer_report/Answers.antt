@@ -1,5 +1,4 @@
 use native.Mathlib.Omega.{arith}
-use borrow.Author.Rules.{rules}
 use Rattle.format.proofs.Chain.{met}
 use Rattle.layers.specs.Says.{layer_is}
 use Rattle.citp.specs.Says.{layer_header_says}

@@ -1,4 +1,3 @@
-use borrow.Author.Rules.{rules}
 use borrow.Author.Tests.{lt-ltb, le-ltb}
 use Rattle.format.proofs.Chain.{met}
 use Rattle.protocol.specs.Step.{content_at}

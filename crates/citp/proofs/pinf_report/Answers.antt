@@ -1,4 +1,3 @@
-use borrow.Author.Rules.{rules}
 use Rattle.format.proofs.Chain.{met}
 use Rattle.protocol.specs.Layer.{PINF}
 use Rattle.pinf.specs.Says.{message_says}

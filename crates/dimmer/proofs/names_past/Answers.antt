@@ -1,4 +1,3 @@
-use Rattle.dimmer.proofs.Records.{Looking}
 use Rattle.dimmer.proofs.Calls.{needs}
 use Rattle.dimmer.proofs.names_past.Goals as goal
 

@@ -1,5 +1,4 @@
 use Rattle.dimmer.proofs.Records.{Looking}
-use Rattle.dimmer.proofs.Calls.{needs}
 use Rattle.dimmer.proofs.names_past.Given as goal
 
 abbrev pub invariant-loop-left : goal.invariant-loop-left

@@ -1,4 +1,3 @@
-use Rattle.dimmer.proofs.Records.{Setting-on}
 use Rattle.dimmer.proofs.Calls.{needs}
 use Rattle.dimmer.proofs.set_records.Goals as goal
 

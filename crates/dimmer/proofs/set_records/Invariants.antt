@@ -1,5 +1,4 @@
 use Rattle.dimmer.proofs.Records.{Setting-on}
-use Rattle.dimmer.proofs.Calls.{needs}
 use Rattle.dimmer.proofs.set_records.Given as goal
 
 abbrev pub invariant-loop-left : goal.invariant-loop-left

@@ -1,6 +1,3 @@
-use Prim.Native.Nat.{◌-◌}
-use lib.ListN.{length}
-use Rattle.dimmer.proofs.Runs.{Run}
 use Rattle.dimmer.proofs.Calls.{needs}
 use Rattle.dimmer.proofs.set_run.Goals as goal
 

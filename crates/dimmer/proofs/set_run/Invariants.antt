@@ -1,7 +1,6 @@
 use Prim.Native.Nat.{◌-◌}
 use lib.ListN.{length}
 use Rattle.dimmer.proofs.Runs.{Run}
-use Rattle.dimmer.proofs.Calls.{needs}
 use Rattle.dimmer.proofs.set_run.Given as goal
 
 abbrev pub invariant-loop-i : goal.invariant-loop-i

@@ -1,7 +1,6 @@
 use Rattle.patching.proofs.Fields.{before_at}
 use mathlib.Core.Path.{ap₂, ◌∙◌}
 use lib.Dec.{ltb}
-use borrow.Author.Rules.{rules}
 use Rattle.entries.proofs.before.Goals as goal
 
 pub returns : goal.returns

@@ -1,5 +1,4 @@
 use native.Mathlib.Omega.{arith}
-use borrow.Author.Rules.{rules}
 use Rattle.patching.proofs.Fields.{channel-lt, count-lt, no-channel, some-channel}
 use Rattle.entries.proofs.misfits.Goals as goal
 

@@ -1,6 +1,5 @@
 use mathlib.Core.Path.{ap₂}
 use lib.Dec.{eqb}
-use borrow.Author.Rules.{rules}
 use Rattle.entries.proofs.same.Goals as goal
 
 pub returns : goal.returns

@@ -2,7 +2,6 @@ use Prim.Native.Nat.{◌+◌, ◌<◌, ◌≤◌}
 use mathlib.Core.Path.{ap₂, ◌∙◌}
 use native.Mathlib.Omega.{arith}
 use lib.Dec.{eqb}
-use borrow.Author.Rules.{rules}
 use Rattle.patching.specs.Entry.{channel_count}
 use Rattle.patching.proofs.Fields.{at, count-lt, ends-ahead, ends-behind, none-held, none-held-there, by-universe}
 use Rattle.entries.proofs.shares.Goals as goal

@@ -1,7 +1,6 @@
 use mathlib.Core.Path.{sym, subst, ◌∙◌}
 use mathlib.Core.Bool.{Bool, not}
 use lib.Dec.{T}
-use borrow.Author.Rules.{rules}
 use Rattle.floats.proofs.Patterns.{nan-of-pattern}
 use Rattle.floats.proofs.f32_of.Goals as goal
 

@@ -1,7 +1,4 @@
-use Prim.Native.Nat.{◌-◌}
-use lib.ListN.{length}
-use Rattle.text.proofs.Loops.{needs, Each}
-use Rattle.lines.specs.Lines.{decimal_line}
+use Rattle.text.proofs.Loops.{needs}
 use Rattle.lines.proofs.put_bytes.Goals as goal
 
 pub loop-i-init : goal.loop-i-init

@@ -1,6 +1,6 @@
 use Prim.Native.Nat.{◌-◌}
 use lib.ListN.{length}
-use Rattle.text.proofs.Loops.{needs, Each}
+use Rattle.text.proofs.Loops.{Each}
 use Rattle.lines.specs.Lines.{decimal_line}
 use Rattle.lines.proofs.put_bytes.Given as goal
 

@@ -1,5 +1,3 @@
-use Rattle.text.proofs.Loops.{Onto}
-use Rattle.lines.specs.Lines.{decimal, item_lines}
 use Rattle.lines.proofs.Loops.{needs, u16-items}
 use Rattle.lines.proofs.put_u16_items.Goals as goal
 

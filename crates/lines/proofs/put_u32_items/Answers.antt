@@ -1,5 +1,3 @@
-use Rattle.text.proofs.Loops.{Onto}
-use Rattle.lines.specs.Lines.{decimal, item_lines}
 use Rattle.lines.proofs.Loops.{needs, u32-items}
 use Rattle.lines.proofs.put_u32_items.Goals as goal
 

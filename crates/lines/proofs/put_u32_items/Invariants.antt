@@ -1,6 +1,5 @@
 use Rattle.text.proofs.Loops.{Onto}
 use Rattle.lines.specs.Lines.{decimal, item_lines}
-use Rattle.lines.proofs.Loops.{needs, u32-items}
 use Rattle.lines.proofs.put_u32_items.Given as goal
 
 abbrev pub invariant-loop-next : goal.invariant-loop-next

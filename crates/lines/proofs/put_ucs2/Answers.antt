@@ -1,4 +1,3 @@
-use borrow.Author.Rules.{rules}
 use Rattle.lines.proofs.Fields.{strings}
 use Rattle.lines.proofs.put_ucs2.Goals as goal
 

@@ -1,4 +1,3 @@
-use borrow.Author.Rules.{rules}
 use Rattle.listing.proofs.Walks.{part_none, part-some}
 use Rattle.listing.proofs.list_from.Goals as goal
 

@@ -1,4 +1,3 @@
-use borrow.Author.Rules.{rules}
 use Rattle.listing.proofs.Reports.{contents}
 use Rattle.listing.proofs.put_content.Goals as goal
 

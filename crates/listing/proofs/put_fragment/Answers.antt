@@ -1,4 +1,3 @@
-use borrow.Author.Rules.{rules}
 use Rattle.listing.proofs.Reports.{reports}
 use Rattle.listing.proofs.put_fragment.Goals as goal
 

@@ -1,6 +1,4 @@
-use Prim.Native.Nat.{◌-◌}
-use lib.ListN.{length}
-use Rattle.listing.proofs.Walks.{needs, Walking}
+use Rattle.listing.proofs.Walks.{needs}
 use Rattle.listing.proofs.put_listing.Goals as goal
 
 pub loop-p-init : goal.loop-p-init

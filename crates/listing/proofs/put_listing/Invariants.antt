@@ -1,6 +1,6 @@
 use Prim.Native.Nat.{◌-◌}
 use lib.ListN.{length}
-use Rattle.listing.proofs.Walks.{needs, Walking}
+use Rattle.listing.proofs.Walks.{Walking}
 use Rattle.listing.proofs.put_listing.Given as goal
 
 abbrev pub invariant-loop-p : goal.invariant-loop-p

@@ -1,4 +1,3 @@
-use borrow.Author.Rules.{rules}
 use mathlib.Core.Path.{refl}
 use Rattle.format.specs.Format.{encode_number}
 use Rattle.messages.proofs.letters.Goals as goal

@@ -1,7 +1,4 @@
-use Rattle.text.proofs.Loops.{Onto}
-use Rattle.lines.specs.Lines.{item_lines}
 use Rattle.lines.proofs.Loops.{needs}
-use Rattle.names.specs.Names as names
 use Rattle.messages.proofs.Levels.{channel-levels}
 use Rattle.messages.proofs.put_channel_levels.Goals as goal
 

@@ -1,8 +1,6 @@
 use Rattle.text.proofs.Loops.{Onto}
 use Rattle.lines.specs.Lines.{item_lines}
-use Rattle.lines.proofs.Loops.{needs}
 use Rattle.names.specs.Names as names
-use Rattle.messages.proofs.Levels.{channel-levels}
 use Rattle.messages.proofs.put_channel_levels.Given as goal
 
 abbrev pub invariant-loop-next : goal.invariant-loop-next

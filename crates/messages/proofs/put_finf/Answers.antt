@@ -1,4 +1,3 @@
-use borrow.Author.Rules.{rules}
 use Rattle.format.specs.Format.{encode_number}
 use Rattle.names.proofs.Messages.{put-case, put-message}
 use Rattle.finf.specs.Says.{message_kind, message_view}

@@ -1,4 +1,3 @@
-use borrow.Author.Rules.{rules}
 use Rattle.text.proofs.Prints.{put_then}
 use Rattle.messages.proofs.put_hinted_kind.Goals as goal
 

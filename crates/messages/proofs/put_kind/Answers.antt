@@ -1,4 +1,3 @@
-use borrow.Author.Rules.{rules}
 use Rattle.messages.proofs.KindLines.{put-letters}
 use Rattle.messages.proofs.put_kind.Goals as goal
 

@@ -1,4 +1,3 @@
-use borrow.Author.Rules.{rules}
 use Rattle.lines.proofs.Fields.{fields}
 use Rattle.messages.proofs.put_patch_channels.Goals as goal
 

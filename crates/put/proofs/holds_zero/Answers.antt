@@ -1,6 +1,3 @@
-use Prim.Native.Nat.{◌-◌}
-use lib.ListN.{length}
-use Rattle.put.proofs.Zeros.{Searched}
 use Rattle.put.proofs.Loops.{needs}
 use Rattle.put.proofs.holds_zero.Goals as goal
 

@@ -1,7 +1,6 @@
 use Prim.Native.Nat.{◌-◌}
 use lib.ListN.{length}
 use Rattle.put.proofs.Zeros.{Searched}
-use Rattle.put.proofs.Loops.{needs}
 use Rattle.put.proofs.holds_zero.Given as goal
 
 abbrev pub invariant-loop-i : goal.invariant-loop-i

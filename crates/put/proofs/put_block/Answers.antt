@@ -1,4 +1,3 @@
-use borrow.Author.Rules.{rules}
 use Rattle.put.proofs.Writing.{put-numbers}
 use Rattle.put.proofs.put_block.Goals as goal
 

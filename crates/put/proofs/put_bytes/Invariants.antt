@@ -1,7 +1,6 @@
 use Prim.Native.Nat.{◌-◌}
 use lib.ListN.{length}
 use Rattle.put.proofs.Writing.{Copied}
-use Rattle.put.proofs.Loops.{needs}
 use Rattle.put.proofs.put_bytes.Given as goal
 
 abbrev pub invariant-loop-i : goal.invariant-loop-i

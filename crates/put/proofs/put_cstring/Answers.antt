@@ -1,5 +1,4 @@
 use native.Mathlib.Omega.{arith}
-use borrow.Author.Rules.{rules}
 use Rattle.format.specs.Format.{encode}
 use Rattle.put.proofs.Writing.{put_then, byte-items}
 use Rattle.put.proofs.put_cstring.Goals as goal

@@ -1,4 +1,3 @@
-use borrow.Author.Rules.{rules}
 use Rattle.format.specs.Format.{encode, encode_number}
 use Rattle.put.proofs.Writing.{put_then}
 use Rattle.put.proofs.put_number_4.Goals as goal

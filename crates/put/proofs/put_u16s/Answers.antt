@@ -1,6 +1,3 @@
-use Prim.Native.Nat.{◌-◌}
-use lib.ListN.{length}
-use Rattle.put.proofs.Writing.{Copied}
 use Rattle.put.proofs.Loops.{needs}
 use Rattle.put.proofs.put_u16s.Goals as goal
 

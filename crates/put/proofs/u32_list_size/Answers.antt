@@ -1,4 +1,3 @@
-use borrow.Author.Rules.{rules}
 use native.Mathlib.Omega.{arith}
 use Rattle.put.proofs.Sizes.{numbers-size}
 use Rattle.put.proofs.u32_list_size.Goals as goal

@@ -1,5 +1,4 @@
 use borrow.Author.Tests.{le-ltb, lt-ltb}
-use borrow.Author.Rules.{rules}
 use Rattle.put.proofs.Weighing.{weigh-capped}
 use Rattle.put.proofs.weigh.Goals as goal
 

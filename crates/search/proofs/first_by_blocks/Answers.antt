@@ -1,4 +1,3 @@
-use borrow.Author.Rules.{rules}
 use Rattle.search.proofs.Free.{free-none, free-join, first-join, first-free, first-here}
 use native.Mathlib.Omega.{arith}
 use mathlib.Core.Path.{refl}

@@ -1,6 +1,4 @@
 use Rattle.search.specs.Free.{byte_of, Free}
-use Rattle.search.proofs.Free.{free-join, first-join, first-free, first-here, needs}
-use native.Mathlib.Omega.{arith}
 use Prim.Native.Nat.{◌≤◌, ◌-◌}
 use Rattle.search.proofs.first_by_eights.Given as goal
 

@@ -1,8 +1,6 @@
-use Rattle.search.specs.Free.{unit_of, Free}
 use Rattle.search.proofs.Free.{free-none, free_more, free-to}
 use native.Mathlib.Omega.{arith}
 use mathlib.Core.Path.{sym, ◌∙◌}
-use Prim.Native.Nat.{◌≤◌, ◌-◌}
 use Rattle.search.proofs.first_of_24_units.Goals as goal
 
 pub loop-j-init : goal.loop-j-init

@@ -1,7 +1,4 @@
 use Rattle.search.specs.Free.{unit_of, Free}
-use Rattle.search.proofs.Free.{free-none, free_more, free-to}
-use native.Mathlib.Omega.{arith}
-use mathlib.Core.Path.{sym, ◌∙◌}
 use Prim.Native.Nat.{◌≤◌, ◌-◌}
 use Rattle.search.proofs.first_of_24_units.Given as goal
 

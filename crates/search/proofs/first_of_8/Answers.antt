@@ -1,7 +1,5 @@
-use Rattle.search.specs.Free.{byte_of, Free}
 use Rattle.search.proofs.Free.{free-none, free_more, free-to}
 use native.Mathlib.Omega.{arith}
-use Prim.Native.Nat.{◌≤◌, ◌-◌, ◌+◌}
 use Rattle.search.proofs.first_of_8.Goals as goal
 
 pub loop-j-init : goal.loop-j-init

@@ -1,10 +1,7 @@
-use Rattle.search.specs.Free.{byte_of, Free}
 use Rattle.search.proofs.Free.{free-none, free_more}
 use Rattle.search.proofs.Zero.{counted-here, counted_none}
 use native.Mathlib.Omega.{arith}
 use mathlib.Core.Path.{refl}
-use Prim.Native.Nat.{◌≤◌, ◌-◌}
-use lib.ListN.{length}
 use Rattle.search.proofs.first_of_few.Goals as goal
 
 pub loop-i-init : goal.loop-i-init

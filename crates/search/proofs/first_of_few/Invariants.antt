@@ -1,8 +1,4 @@
 use Rattle.search.specs.Free.{byte_of, Free}
-use Rattle.search.proofs.Free.{free-none, free_more}
-use Rattle.search.proofs.Zero.{counted-here, counted_none}
-use native.Mathlib.Omega.{arith}
-use mathlib.Core.Path.{refl}
 use Prim.Native.Nat.{◌≤◌, ◌-◌}
 use lib.ListN.{length}
 use Rattle.search.proofs.first_of_few.Given as goal

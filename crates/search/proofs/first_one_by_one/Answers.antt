@@ -1,7 +1,5 @@
-use Rattle.search.specs.Free.{byte_of, Free}
 use Rattle.search.proofs.Free.{free-none, free_more}
 use native.Mathlib.Omega.{arith}
-use Prim.Native.Nat.{◌≤◌, ◌-◌}
 use Rattle.search.proofs.first_one_by_one.Goals as goal
 
 pub loop-i-init : goal.loop-i-init

@@ -1,6 +1,4 @@
 use Rattle.search.specs.Free.{byte_of, Free}
-use Rattle.search.proofs.Free.{free-none, free_more}
-use native.Mathlib.Omega.{arith}
 use Prim.Native.Nat.{◌≤◌, ◌-◌}
 use Rattle.search.proofs.first_one_by_one.Given as goal
 

@@ -1,5 +1,4 @@
 use Rattle.search.proofs.Free.{free-join, first-join}
-use native.Mathlib.Omega.{arith}
 use Rattle.search.proofs.first_unit_by_blocks.Goals as goal
 
 pub returns : goal.returns

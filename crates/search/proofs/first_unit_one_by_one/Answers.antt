@@ -1,8 +1,6 @@
-use Rattle.search.specs.Free.{unit_of, Free}
 use Rattle.search.proofs.Free.{free-none, free_more}
 use native.Mathlib.Omega.{arith}
 use mathlib.Core.Path.{sym, ◌∙◌}
-use Prim.Native.Nat.{◌≤◌, ◌-◌}
 use Rattle.search.proofs.first_unit_one_by_one.Goals as goal
 
 pub loop-n-init : goal.loop-n-init

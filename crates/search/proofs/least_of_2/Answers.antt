@@ -1,5 +1,4 @@
 use Rattle.search.proofs.Free.{row_one, rows-least}
-use native.Mathlib.Omega.{arith}
 use Rattle.search.proofs.least_of_2.Goals as goal
 
 pub returns : goal.returns

@@ -1,5 +1,4 @@
 use Rattle.search.proofs.Free.{rows-least}
-use native.Mathlib.Omega.{arith}
 use Rattle.search.proofs.least_of_8.Goals as goal
 
 pub returns : goal.returns

@@ -1,8 +1,5 @@
-use Rattle.search.specs.Free.{byte_of, Free}
 use Rattle.search.proofs.Free.{free-join, needs}
 use native.Mathlib.Omega.{arith}
-use lib.ListN.{length}
-use Prim.Native.Nat.{◌≤◌, ◌-◌}
 use Rattle.search.proofs.pass_16.Goals as goal
 
 pub loop-i-init : goal.loop-i-init

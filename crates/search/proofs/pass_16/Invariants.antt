@@ -1,6 +1,4 @@
 use Rattle.search.specs.Free.{byte_of, Free}
-use Rattle.search.proofs.Free.{free-join, needs}
-use native.Mathlib.Omega.{arith}
 use lib.ListN.{length}
 use Prim.Native.Nat.{◌≤◌, ◌-◌}
 use Rattle.search.proofs.pass_16.Given as goal

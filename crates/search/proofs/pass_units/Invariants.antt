@@ -1,6 +1,4 @@
 use Rattle.search.specs.Free.{unit_of, Free}
-use Rattle.search.proofs.Free.{free-join, needs}
-use native.Mathlib.Omega.{arith}
 use lib.ListN.{length}
 use Prim.Native.Nat.{◌≤◌, ◌-◌, ◌+◌, ◌*◌}
 use Rattle.search.proofs.pass_units.Given as goal

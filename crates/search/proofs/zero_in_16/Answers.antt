@@ -1,9 +1,6 @@
-use mathlib.Core.Logic.{⊎_elim}
-use Rattle.search.specs.Free.{byte_of, Free}
 use Rattle.search.proofs.Free.{free-none, free_more, free-to}
 use native.Mathlib.Omega.{arith}
-use mathlib.Core.Path.{◌≡◌, sym, ◌∙◌}
-use Prim.Native.Nat.{◌≤◌, ◌-◌, ◌+◌}
+use mathlib.Core.Path.{sym, ◌∙◌}
 use Rattle.search.proofs.zero_in_16.Goals as goal
 use Rattle.search.proofs.zero_in_16.Goals.{then-s-i-eq0, else-s-i-eq0}
 

@@ -1,8 +1,5 @@
-use mathlib.Core.Logic.{⊎_elim}
 use Rattle.search.specs.Free.{byte_of, Free}
-use Rattle.search.proofs.Free.{free-none, free_more, free-to}
-use native.Mathlib.Omega.{arith}
-use mathlib.Core.Path.{◌≡◌, sym, ◌∙◌}
+use mathlib.Core.Path.{◌≡◌}
 use Prim.Native.Nat.{◌≤◌, ◌-◌, ◌+◌}
 use Rattle.search.proofs.zero_in_16.Given as goal
 

@@ -1,10 +1,7 @@
 use borrow.Author.Count.{below_more}
-use mathlib.Core.Logic.{⊎_elim}
-use Rattle.search.specs.Free.{byte_of, Rows}
 use Rattle.search.proofs.Free.{free-rows}
 use native.Mathlib.Omega.{arith}
-use mathlib.Core.Path.{◌≡◌, sym, ◌∙◌}
-use Prim.Native.Nat.{ℕ, ◌≤◌, ◌<◌, ◌-◌, ◌+◌}
+use mathlib.Core.Path.{sym, ◌∙◌}
 use Rattle.search.proofs.zero_in_256.Goals as goal
 use Rattle.search.proofs.zero_in_256.Goals.{then-least_of_16-eq0, else-least_of_16-eq0}
 

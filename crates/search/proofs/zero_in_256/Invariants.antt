@@ -1,9 +1,5 @@
-use borrow.Author.Count.{below_more}
-use mathlib.Core.Logic.{⊎_elim}
 use Rattle.search.specs.Free.{byte_of, Rows}
-use Rattle.search.proofs.Free.{free-rows}
-use native.Mathlib.Omega.{arith}
-use mathlib.Core.Path.{◌≡◌, sym, ◌∙◌}
+use mathlib.Core.Path.{◌≡◌}
 use Prim.Native.Nat.{ℕ, ◌≤◌, ◌<◌, ◌-◌, ◌+◌}
 use Rattle.search.proofs.zero_in_256.Given as goal
 

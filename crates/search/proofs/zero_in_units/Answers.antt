@@ -1,9 +1,6 @@
-use Rattle.search.specs.Free.{unit_of, Free}
 use Rattle.search.proofs.Free.{free-none, free_more, free-to}
 use native.Mathlib.Omega.{arith}
-use mathlib.Core.Path.{◌≡◌, sym, ◌∙◌}
-use mathlib.Core.Logic.{⊎_elim}
-use Prim.Native.Nat.{◌≤◌, ◌-◌, ◌+◌}
+use mathlib.Core.Path.{sym, ◌∙◌}
 use Rattle.search.proofs.zero_in_units.Goals as goal
 use Rattle.search.proofs.zero_in_units.Goals.{then-unit_at-eq0, else-unit_at-eq0}
 

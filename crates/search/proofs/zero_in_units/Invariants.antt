@@ -1,8 +1,5 @@
 use Rattle.search.specs.Free.{unit_of, Free}
-use Rattle.search.proofs.Free.{free-none, free_more, free-to}
-use native.Mathlib.Omega.{arith}
-use mathlib.Core.Path.{◌≡◌, sym, ◌∙◌}
-use mathlib.Core.Logic.{⊎_elim}
+use mathlib.Core.Path.{◌≡◌}
 use Prim.Native.Nat.{◌≤◌, ◌-◌, ◌+◌}
 use Rattle.search.proofs.zero_in_units.Given as goal
 

@@ -1,4 +1,3 @@
-use borrow.Author.Rules.{rules}
 use Rattle.text.proofs.Digits.{digit_low, digit-high}
 use Rattle.text.proofs.digit.Goals as goal
 

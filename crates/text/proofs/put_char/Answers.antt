@@ -1,4 +1,3 @@
-use borrow.Author.Rules.{rules}
 use Rattle.text.proofs.Prints.{put-before, put_in, put-past}
 use Rattle.text.proofs.put_char.Goals as goal
 

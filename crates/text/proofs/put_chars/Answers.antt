@@ -1,6 +1,4 @@
-use Prim.Native.Nat.{◌-◌}
-use lib.ListN.{length}
-use Rattle.text.proofs.Loops.{needs, Each, one}
+use Rattle.text.proofs.Loops.{needs}
 use Rattle.text.proofs.put_chars.Goals as goal
 
 pub loop-i-init : goal.loop-i-init

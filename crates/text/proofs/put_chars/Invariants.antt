@@ -1,6 +1,6 @@
 use Prim.Native.Nat.{◌-◌}
 use lib.ListN.{length}
-use Rattle.text.proofs.Loops.{needs, Each, one}
+use Rattle.text.proofs.Loops.{Each, one}
 use Rattle.text.proofs.put_chars.Given as goal
 
 abbrev pub invariant-loop-i : goal.invariant-loop-i

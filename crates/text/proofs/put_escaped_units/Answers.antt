@@ -1,4 +1,4 @@
-use Rattle.text.proofs.Loops.{needs, Units}
+use Rattle.text.proofs.Loops.{needs}
 use Rattle.text.proofs.put_escaped_units.Goals as goal
 
 pub loop-left-init : goal.loop-left-init

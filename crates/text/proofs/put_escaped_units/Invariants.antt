@@ -1,4 +1,4 @@
-use Rattle.text.proofs.Loops.{needs, Units}
+use Rattle.text.proofs.Loops.{Units}
 use Rattle.text.proofs.put_escaped_units.Given as goal
 
 abbrev pub invariant-loop-left : goal.invariant-loop-left

@@ -1,7 +1,4 @@
-use Prim.Native.Nat.{◌-◌}
-use lib.ListN.{length}
-use Rattle.text.specs.Text.{hex}
-use Rattle.text.proofs.Loops.{needs, Each}
+use Rattle.text.proofs.Loops.{needs}
 use Rattle.text.proofs.put_hex_block.Goals as goal
 
 pub loop-i-init : goal.loop-i-init

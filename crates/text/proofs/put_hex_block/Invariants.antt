@@ -1,7 +1,7 @@
 use Prim.Native.Nat.{◌-◌}
 use lib.ListN.{length}
 use Rattle.text.specs.Text.{hex}
-use Rattle.text.proofs.Loops.{needs, Each}
+use Rattle.text.proofs.Loops.{Each}
 use Rattle.text.proofs.put_hex_block.Given as goal
 
 abbrev pub invariant-loop-i : goal.invariant-loop-i

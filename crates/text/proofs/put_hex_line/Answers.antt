@@ -1,4 +1,3 @@
-use borrow.Author.Rules.{rules}
 use Rattle.text.proofs.Texts.{texts}
 use Rattle.text.proofs.put_hex_line.Goals as goal
 

@@ -1,4 +1,3 @@
-use borrow.Author.Rules.{rules}
 use Rattle.layers.specs.Says.{layer_is}
 use Rattle.turns.proofs.Laws.{hint-written, no-hint}
 use Rattle.turns.proofs.put_hint.Goals as goal

@@ -1,4 +1,3 @@
-use borrow.Author.Rules.{rules}
 use Rattle.turns.proofs.Laws.{layer-header-written}
 use Rattle.turns.proofs.put_layer_header.Goals as goal
 

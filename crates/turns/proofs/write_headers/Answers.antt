@@ -1,4 +1,3 @@
-use borrow.Author.Rules.{rules}
 use Rattle.turns.proofs.Laws.{headers-refused, headers-taken}
 use Rattle.turns.proofs.write_headers.Goals as goal
 

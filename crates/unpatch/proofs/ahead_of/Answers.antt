@@ -1,6 +1,5 @@
 use native.Mathlib.Omega.{arith}
-use Rattle.std.proofs.Common.{◌-◌, [], ◌∷◌, length, refl, ◌∙◌, arith, ne_eqb}
-use Rattle.unpatch.specs.Unpatch.{Stay}
+use Rattle.std.proofs.Common.{[], ◌∷◌, refl, ◌∙◌, arith, ne_eqb}
 use Rattle.unpatch.proofs.Listed.{among_one}
 use Rattle.unpatch.proofs.Passes.{stay-next}
 use Rattle.unpatch.proofs.ahead_of.Goals as goal

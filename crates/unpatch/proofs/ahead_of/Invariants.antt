@@ -1,7 +1,5 @@
-use Rattle.std.proofs.Common.{◌-◌, [], ◌∷◌, length, refl, ◌∙◌, arith, ne_eqb}
+use Rattle.std.proofs.Common.{◌-◌, [], ◌∷◌, length}
 use Rattle.unpatch.specs.Unpatch.{Stay}
-use Rattle.unpatch.proofs.Listed.{among_one}
-use Rattle.unpatch.proofs.Passes.{stay-next}
 use Rattle.unpatch.proofs.ahead_of.Given as goal
 
 abbrev pub invariant-loop-i : goal.invariant-loop-i

@@ -1,9 +1,6 @@
-use Rattle.std.proofs.Common.{◌≡◌, ◌-◌, ◌≤◌, true, false, length, get_or, take, drop, sym, ap, ◌∙◌, arith}
-use lib.Seq.{take-length}
+use Rattle.std.proofs.Common.{◌≡◌, ◌-◌, ◌≤◌, length, take, drop}
 use Rattle.format.specs.Fault.{any}
-use Rattle.patching.proofs.Loops.{any_step, any-stop}
 use Rattle.unpatch.specs.Unpatch.{lies_in}
-use Rattle.unpatch.proofs.Ranges.{inside, outside}
 use Rattle.unpatch.proofs.any_within.Given as goal
 
 abbrev pub invariant-loop-i : goal.invariant-loop-i

@@ -1,9 +1,8 @@
 use native.Mathlib.Omega.{arith}
-use Rattle.std.proofs.Common.{◌-◌, length, sym, refl, ◌∙◌, arith}
-use Rattle.unpatch.specs.Unpatch.{identifiers_of}
+use Rattle.std.proofs.Common.{sym, refl, ◌∙◌, arith}
 use Rattle.unpatch.proofs.Marks.{word_count}
 use Rattle.unpatch.proofs.Found.{found-dropped}
-use Rattle.unpatch.proofs.Passes.{Dropping, from, unmoved, drop-next, keep_one, dropped}
+use Rattle.unpatch.proofs.Passes.{from, unmoved, drop-next, keep_one, dropped}
 use Rattle.unpatch.proofs.drop_by_ranges.Goals as goal
 
 pub loop-i-init : goal.loop-i-init

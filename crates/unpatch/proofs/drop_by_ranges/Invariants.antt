@@ -1,8 +1,6 @@
-use Rattle.std.proofs.Common.{◌-◌, length, sym, refl, ◌∙◌, arith}
+use Rattle.std.proofs.Common.{◌-◌, length}
 use Rattle.unpatch.specs.Unpatch.{identifiers_of}
-use Rattle.unpatch.proofs.Marks.{word_count}
-use Rattle.unpatch.proofs.Found.{found-dropped}
-use Rattle.unpatch.proofs.Passes.{Dropping, from, unmoved, drop-next, keep_one, dropped}
+use Rattle.unpatch.proofs.Passes.{Dropping}
 use Rattle.unpatch.proofs.drop_by_ranges.Given as goal
 
 abbrev pub invariant-loop-i : goal.invariant-loop-i

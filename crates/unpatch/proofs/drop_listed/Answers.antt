@@ -1,5 +1,5 @@
 use native.Mathlib.Omega.{arith}
-use Rattle.std.proofs.Common.{◌≡◌, ℕ, List, [], ◌∷◌, sym, ap, ◌∙◌, subst, arith, rules}
+use Rattle.std.proofs.Common.{◌≡◌, ℕ, List, [], ◌∷◌, sym, ap, ◌∙◌, subst, arith}
 use Rattle.unpatch.specs.Unpatch.{identifiers_of, Dropped}
 use Rattle.unpatch.proofs.Listed.{one-listed}
 use Rattle.unpatch.proofs.drop_listed.Goals as goal

@@ -1,7 +1,7 @@
 use native.Mathlib.Omega.{arith}
-use Rattle.std.proofs.Common.{◌-◌, [], ◌∷◌, length, ◌∙◌, arith, eq-eqb, ne_eqb}
+use Rattle.std.proofs.Common.{◌∙◌, arith, eq-eqb, ne_eqb}
 use Rattle.unpatch.proofs.Listed.{among_one}
-use Rattle.unpatch.proofs.Passes.{Dropping, from, drop-next, keep_one, dropped as all-dropped}
+use Rattle.unpatch.proofs.Passes.{from, drop-next, keep_one, dropped as all-dropped}
 use Rattle.unpatch.proofs.drop_one.Goals as goal
 
 pub loop-i-init : goal.loop-i-init

@@ -1,6 +1,5 @@
-use Rattle.std.proofs.Common.{◌-◌, [], ◌∷◌, length, ◌∙◌, arith, eq-eqb, ne_eqb}
-use Rattle.unpatch.proofs.Listed.{among_one}
-use Rattle.unpatch.proofs.Passes.{Dropping, from, drop-next, keep_one, dropped as all-dropped}
+use Rattle.std.proofs.Common.{◌-◌, [], ◌∷◌, length}
+use Rattle.unpatch.proofs.Passes.{Dropping}
 use Rattle.unpatch.proofs.drop_one.Given as goal
 
 abbrev pub invariant-loop-i : goal.invariant-loop-i

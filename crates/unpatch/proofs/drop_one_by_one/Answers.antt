@@ -1,7 +1,6 @@
 use native.Mathlib.Omega.{arith}
-use Rattle.std.proofs.Common.{◌-◌, length, sym, refl, ◌∙◌, arith}
-use Rattle.unpatch.specs.Unpatch.{identifiers_of}
-use Rattle.unpatch.proofs.Passes.{Dropping, from, drop-next, keep_one, dropped}
+use Rattle.std.proofs.Common.{sym, refl, ◌∙◌, arith}
+use Rattle.unpatch.proofs.Passes.{from, drop-next, keep_one, dropped}
 use Rattle.unpatch.proofs.drop_one_by_one.Goals as goal
 
 pub loop-i-init : goal.loop-i-init

@@ -1,6 +1,6 @@
-use Rattle.std.proofs.Common.{◌-◌, length, sym, refl, ◌∙◌, arith}
+use Rattle.std.proofs.Common.{◌-◌, length}
 use Rattle.unpatch.specs.Unpatch.{identifiers_of}
-use Rattle.unpatch.proofs.Passes.{Dropping, from, drop-next, keep_one, dropped}
+use Rattle.unpatch.proofs.Passes.{Dropping}
 use Rattle.unpatch.proofs.drop_one_by_one.Given as goal
 
 abbrev pub invariant-loop-i : goal.invariant-loop-i

@@ -1,5 +1,5 @@
 use native.Mathlib.Omega.{arith}
-use Rattle.std.proofs.Common.{arith, rules}
+use Rattle.std.proofs.Common.{arith}
 use Rattle.unpatch.specs.Unpatch.{identifiers_of}
 use Rattle.unpatch.proofs.Found.{found_none}
 use Rattle.unpatch.proofs.find_listed.Goals as goal

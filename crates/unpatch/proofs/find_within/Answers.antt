@@ -1,10 +1,9 @@
 use native.Mathlib.Omega.{arith}
-use Rattle.std.proofs.Common.{◌≡◌, ◌-◌, ◌≤◌, length, replicate, sym, refl, ap, ◌∙◌, arith}
-use borrow.Author.Tests.{not-true}
+use Rattle.std.proofs.Common.{◌≡◌, length, replicate, sym, ap, ◌∙◌, arith}
 use Rattle.unpatch.specs.Unpatch.{identifiers_of}
 use Rattle.unpatch.proofs.Marks.{word_count}
 use Rattle.unpatch.proofs.Ranges.{no-marks}
-use Rattle.unpatch.proofs.Found.{found-same, Finding, find-start, find-outside, find-not, find-one, find-end}
+use Rattle.unpatch.proofs.Found.{found-same, find-start, find-outside, find-not, find-one, find-end}
 use Rattle.unpatch.proofs.find_within.Goals as goal
 
 pub returns-then-not-any_within : goal.returns-then-not-any_within

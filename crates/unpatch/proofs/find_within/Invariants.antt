@@ -1,9 +1,6 @@
-use Rattle.std.proofs.Common.{◌≡◌, ◌-◌, ◌≤◌, length, replicate, sym, refl, ap, ◌∙◌, arith}
-use borrow.Author.Tests.{not-true}
+use Rattle.std.proofs.Common.{◌-◌, ◌≤◌, length}
 use Rattle.unpatch.specs.Unpatch.{identifiers_of}
-use Rattle.unpatch.proofs.Marks.{word_count}
-use Rattle.unpatch.proofs.Ranges.{no-marks}
-use Rattle.unpatch.proofs.Found.{found-same, Finding, find-start, find-outside, find-not, find-one, find-end}
+use Rattle.unpatch.proofs.Found.{Finding}
 use Rattle.unpatch.proofs.find_within.Given as goal
 
 abbrev pub invariant-loop-i : goal.invariant-loop-i

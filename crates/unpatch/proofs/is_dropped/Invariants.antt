@@ -1,8 +1,6 @@
-use Rattle.std.proofs.Common.{◌≡◌, ℕ, ◌-◌, ◌/◌, ◌≤◌, false, length, sym, ap, ◌∙◌, arith}
+use Rattle.std.proofs.Common.{◌≡◌, ◌-◌, ◌≤◌, false}
 use Rattle.format.specs.View.{units_of}
-use Rattle.unpatch.specs.Unpatch.{listed_at}
 use Rattle.patching.specs.Book.{among}
-use Rattle.unpatch.proofs.Listed.{among_none, not_there, not_yet, found-there}
 use Rattle.unpatch.proofs.is_dropped.Given as goal
 
 abbrev pub invariant-loop-i : goal.invariant-loop-i

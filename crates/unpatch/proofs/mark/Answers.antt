@@ -1,7 +1,7 @@
 use native.Mathlib.Omega.{arith}
-use Rattle.std.proofs.Common.{◌≡◌, ◌-◌, length, sym, ◌∙◌, arith}
+use Rattle.std.proofs.Common.{◌≡◌, length, sym, ◌∙◌, arith}
 use Rattle.unpatch.proofs.Marks.{word_count}
-use Rattle.unpatch.proofs.Ranges.{Marking, mark-none, mark-one, mark-not, mark-all}
+use Rattle.unpatch.proofs.Ranges.{mark-none, mark-one, mark-not, mark-all}
 use Rattle.unpatch.proofs.mark.Goals as goal
 
 pub loop-i-init : goal.loop-i-init

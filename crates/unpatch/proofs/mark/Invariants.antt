@@ -1,6 +1,5 @@
-use Rattle.std.proofs.Common.{◌≡◌, ◌-◌, length, sym, ◌∙◌, arith}
-use Rattle.unpatch.proofs.Marks.{word_count}
-use Rattle.unpatch.proofs.Ranges.{Marking, mark-none, mark-one, mark-not, mark-all}
+use Rattle.std.proofs.Common.{◌-◌}
+use Rattle.unpatch.proofs.Ranges.{Marking}
 use Rattle.unpatch.proofs.mark.Given as goal
 
 abbrev pub invariant-loop-i : goal.invariant-loop-i

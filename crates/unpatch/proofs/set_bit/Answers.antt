@@ -1,5 +1,5 @@
 use native.Mathlib.Omega.{arith}
-use Rattle.std.proofs.Common.{ℕ, ◌/◌, ◌%◌, ◌^◌, get_or, set, ap, ◌∙◌, one-mul, arith, shl_exact, rules}
+use Rattle.std.proofs.Common.{ℕ, ◌/◌, ◌%◌, ◌^◌, get_or, set, ap, ◌∙◌, one-mul, arith, shl_exact}
 use lib.Bits.{bit_or}
 use Rattle.unpatch.proofs.set_bit.Goals as goal
 

@@ -1,9 +1,6 @@
-use Prim.Native.Nat.{◌-◌, ◌≤◌}
 use mathlib.Core.Path.{refl, ◌≡◌, sym}
-use mathlib.Core.List.{◌++◌}
 use native.Mathlib.Omega.{arith}
-use borrow.Author.Rules.{rules}
-use lib.ListN.{length, take, drop, length-drop, length-set}
+use lib.ListN.{drop, length-drop, length-set}
 use lib.Seq.{get_or-drop}
 use Rattle.wire.proofs.Copying.{copy-next}
 use Rattle.wire.proofs.copy_bytes.Goals as goal

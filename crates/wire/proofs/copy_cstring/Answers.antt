@@ -1,5 +1,3 @@
-use native.Mathlib.Omega.{arith}
-use borrow.Author.Rules.{rules}
 use Rattle.wire.proofs.Copying.{cstring-8, cstring-13, cstring-copied}
 use Rattle.wire.proofs.copy_cstring.Goals as goal
 

@@ -1,11 +1,8 @@
-use Prim.Native.Nat.{◌+◌, ◌-◌, ◌*◌, ◌≤◌}
-use mathlib.Core.Path.{refl, ◌≡◌}
+use Prim.Native.Nat.{◌-◌, ◌≤◌}
+use mathlib.Core.Path.{◌≡◌}
 use mathlib.Core.List.{◌++◌}
-use native.Mathlib.Omega.{arith}
-use borrow.Author.Rules.{rules}
-use lib.ListN.{length, take, drop, length-set}
-use Rattle.wire.proofs.Numbers.{numbers_at, joined-4}
-use Rattle.wire.proofs.Copying.{number-next, all-numbers, numbers-copied}
+use lib.ListN.{length, take, drop}
+use Rattle.wire.proofs.Numbers.{numbers_at}
 use Rattle.wire.proofs.copy_u32s.Given as goal
 
 abbrev pub invariant-loop-i : goal.invariant-loop-i

@@ -1,5 +1,4 @@
 use native.Mathlib.Omega.{arith}
-use borrow.Author.Rules.{rules}
 use Rattle.wire.proofs.Copying.{ucs2-8, ucs2-13, units-room, ucs2-copied}
 use Rattle.wire.proofs.copy_ucs2.Goals as goal
 

@@ -1,10 +1,8 @@
-use Prim.Native.Nat.{◌+◌, ◌-◌, ◌*◌, ◌≤◌}
+use Prim.Native.Nat.{◌+◌, ◌*◌}
 use mathlib.Core.Path.{refl, ◌≡◌}
-use mathlib.Core.List.{◌++◌}
 use native.Mathlib.Omega.{arith}
-use borrow.Author.Rules.{rules}
-use lib.ListN.{length, take, drop, length-set}
-use Rattle.wire.proofs.Numbers.{numbers_at, joined-2, units-numbers}
+use lib.ListN.{length-set}
+use Rattle.wire.proofs.Numbers.{joined-2, units-numbers}
 use Rattle.wire.proofs.Copying.{number-next, all-numbers}
 use Rattle.wire.proofs.copy_units.Goals as goal
 

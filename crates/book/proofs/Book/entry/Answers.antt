@@ -1,6 +1,5 @@
 use mathlib.Core.Path.{sym, ap, ◌∙◌}
 use native.Mathlib.Omega.{arith}
-use borrow.Author.Rules.{rules}
 use Rattle.patching.specs.Entry.{Entry, fields}
 use Rattle.patching.specs.Book.{held}
 use Rattle.book.specs.declared.Listed.TheVariants.{Item}

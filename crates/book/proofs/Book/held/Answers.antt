@@ -1,7 +1,6 @@
 use Prim.Native.Nat.{min}
 use native.Mathlib.Omega.{arith}
 use lib.ListN.{length-take}
-use borrow.Author.Rules.{rules}
 use Rattle.book.proofs.Book.held.Goals as goal
 
 pub returns-then-self-room : goal.returns-then-self-room

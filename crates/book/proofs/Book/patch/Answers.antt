@@ -1,5 +1,4 @@
 use mathlib.Core.Path.{ap, ◌∙◌}
-use borrow.Author.Rules.{rules}
 use Rattle.format.proofs.Chain.{met}
 use Rattle.fptc.specs.Says.{ptch_says}
 use Rattle.patching.specs.Entry.{Entry, fields}

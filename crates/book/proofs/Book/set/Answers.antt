@@ -1,6 +1,5 @@
 use mathlib.Core.Path.{sym, ◌∙◌}
 use lib.Seq.{length-take-le}
-use borrow.Author.Rules.{rules}
 use Rattle.book.proofs.Held.{held-within}
 use Rattle.book.proofs.Answers.{misfit, finds-clash, finds-full, finds-room, finds-put}
 use Rattle.book.proofs.Book.set.Goals as goal

@@ -1,7 +1,6 @@
 use mathlib.Core.Path.{sym, ap, ◌∙◌}
 use mathlib.Core.List.{List}
 use lib.Seq.{length-take-le}
-use borrow.Author.Rules.{rules}
 use Rattle.patching.specs.Entry.{Entry}
 use Rattle.patching.specs.Book.{taken_in}
 use Rattle.book.proofs.Held.{held-within, held-take}

@@ -1,5 +1,4 @@
 use mathlib.Core.Path.{◌∙◌}
-use borrow.Author.Rules.{rules}
 use Rattle.sdmx.specs.Says.{channel_levels_next_says}
 use Rattle.bridge.specs.List.{flat_channel_level}
 use Rattle.plain.proofs.Told.{told}

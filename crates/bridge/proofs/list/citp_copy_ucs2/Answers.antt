@@ -1,4 +1,3 @@
-use borrow.Author.Rules.{rules}
 use Rattle.bridge.proofs.Flat.{copied-told}
 use Rattle.bridge.proofs.list.citp_copy_ucs2.Goals as goal
 

@@ -1,5 +1,4 @@
 use mathlib.Core.Path.{◌∙◌}
-use borrow.Author.Rules.{rules}
 use Rattle.caex.specs.Says.{feed_names_next_says}
 use Rattle.bridge.specs.List.{flat_feed_name}
 use Rattle.plain.proofs.Told.{told}

@@ -1,5 +1,4 @@
 use mathlib.Core.Path.{◌∙◌}
-use borrow.Author.Rules.{rules}
 use Rattle.fixture.specs.Says.{fixtures_next_says}
 use Rattle.bridge.specs.List.{flat_fixture}
 use Rattle.plain.proofs.Told.{told}

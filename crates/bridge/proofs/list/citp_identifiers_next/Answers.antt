@@ -1,5 +1,4 @@
 use mathlib.Core.Path.{◌∙◌}
-use borrow.Author.Rules.{rules}
 use Rattle.fixture.specs.Says.{identifiers_next_says}
 use Rattle.bridge.specs.List.{flat_identifier}
 use Rattle.plain.proofs.Told.{told}

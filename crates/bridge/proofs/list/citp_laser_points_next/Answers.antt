@@ -1,5 +1,4 @@
 use mathlib.Core.Path.{◌∙◌}
-use borrow.Author.Rules.{rules}
 use Rattle.caex.specs.Says.{laser_points_next_says}
 use Rattle.bridge.specs.List.{flat_laser_point}
 use Rattle.plain.proofs.Told.{told}

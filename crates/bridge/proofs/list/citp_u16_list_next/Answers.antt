@@ -1,5 +1,4 @@
 use mathlib.Core.Path.{◌∙◌}
-use borrow.Author.Rules.{rules}
 use Rattle.wire.specs.Says.{u16_next_says}
 use Rattle.bridge.specs.List.{flat_u16}
 use Rattle.plain.proofs.Told.{told}

@@ -1,4 +1,3 @@
-use borrow.Author.Rules.{rules}
 use Rattle.bridge.proofs.Flat.{copied-told}
 use Rattle.bridge.proofs.list.citp_u32_list_copy.Goals as goal
 

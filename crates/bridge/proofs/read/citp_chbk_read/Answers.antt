@@ -1,4 +1,3 @@
-use borrow.Author.Rules.{rules}
 use Rattle.sdmx.specs.Says.{chbk_says}
 use Rattle.bridge.specs.Read.{flat_chbk}
 use Rattle.plain.proofs.Told.{told}

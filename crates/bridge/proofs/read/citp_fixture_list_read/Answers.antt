@@ -1,4 +1,3 @@
-use borrow.Author.Rules.{rules}
 use Rattle.caex.specs.Says.{fixture_list_says}
 use Rattle.bridge.specs.Read.{flat_fixture_list}
 use Rattle.plain.proofs.Told.{told}

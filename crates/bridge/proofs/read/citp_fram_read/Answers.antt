@@ -1,4 +1,3 @@
-use borrow.Author.Rules.{rules}
 use Rattle.finf.specs.Says.{fram_says}
 use Rattle.bridge.specs.Read.{flat_fram}
 use Rattle.plain.proofs.Told.{told}

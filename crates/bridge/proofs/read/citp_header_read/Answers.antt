@@ -1,4 +1,3 @@
-use borrow.Author.Rules.{rules}
 use Rattle.header.specs.Says.{header_says}
 use Rattle.bridge.specs.Read.{flat_header}
 use Rattle.plain.proofs.Told.{told}

@@ -1,4 +1,3 @@
-use borrow.Author.Rules.{rules}
 use Rattle.caex.specs.Says.{laser_feed_frame_says}
 use Rattle.bridge.specs.Read.{flat_laser_feed_frame}
 use Rattle.plain.proofs.Told.{told}

@@ -1,4 +1,3 @@
-use borrow.Author.Rules.{rules}
 use Rattle.pinf.specs.Says.{ploc_says}
 use Rattle.bridge.specs.Read.{flat_ploc}
 use Rattle.plain.proofs.Told.{told}

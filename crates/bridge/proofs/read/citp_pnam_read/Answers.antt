@@ -1,5 +1,4 @@
 use mathlib.Core.Path.{◌∙◌}
-use borrow.Author.Rules.{rules}
 use Rattle.pinf.specs.Says.{pnam_says}
 use Rattle.bridge.specs.Read.{flat_string}
 use Rattle.plain.proofs.Told.{told}

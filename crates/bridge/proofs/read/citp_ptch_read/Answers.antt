@@ -1,4 +1,3 @@
-use borrow.Author.Rules.{rules}
 use Rattle.fptc.specs.Says.{ptch_says}
 use Rattle.bridge.specs.Read.{flat_ptch}
 use Rattle.plain.proofs.Told.{told}

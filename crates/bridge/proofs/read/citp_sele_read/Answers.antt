@@ -1,4 +1,3 @@
-use borrow.Author.Rules.{rules}
 use Rattle.fsel.specs.Says.{sele_says}
 use Rattle.bridge.specs.Read.{flat_sele}
 use Rattle.plain.proofs.Told.{told}

@@ -1,5 +1,4 @@
 use mathlib.Core.Path.{◌∙◌}
-use borrow.Author.Rules.{rules}
 use Rattle.sdmx.specs.Says.{unam_says}
 use Rattle.bridge.specs.Read.{flat_universe_string}
 use Rattle.plain.proofs.Told.{told}

@@ -1,5 +1,4 @@
 use mathlib.Core.Path.{◌∙◌}
-use borrow.Author.Rules.{rules}
 use Rattle.fptc.specs.Says.{uptc_says}
 use Rattle.bridge.specs.Read.{flat_list}
 use Rattle.plain.proofs.Told.{told}

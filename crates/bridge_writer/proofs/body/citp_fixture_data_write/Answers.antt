@@ -1,4 +1,3 @@
-use borrow.Author.Rules.{rules}
 use Rattle.bridge_writer.proofs.Data.{written-data}
 use Rattle.bridge_writer.proofs.body.citp_fixture_data_write.Goals as goal
 

@@ -1,4 +1,3 @@
-use borrow.Author.Rules.{rules}
 use Rattle.bridge_writer.proofs.Data.{call-data}
 use Rattle.bridge_writer.proofs.packet.citp_writer_fixture_data.Goals as goal
 

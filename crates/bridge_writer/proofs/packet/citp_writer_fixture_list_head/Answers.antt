@@ -1,5 +1,4 @@
 use mathlib.Core.Path.{◌∙◌}
-use borrow.Author.Rules.{rules}
 use Rattle.caex.specs.Codes.{message_type_says}
 use Rattle.bridge_writer.specs.Write.{by_code}
 use Rattle.plain.proofs.Calls.{call-is, refused-is}

@@ -1,5 +1,4 @@
 use mathlib.Core.Path.{◌∙◌}
-use borrow.Author.Rules.{rules}
 use Rattle.plain.specs.State.{kind_says, by_kind}
 use Rattle.plain.proofs.Calls.{call-is, refused-is}
 use Rattle.plain.proofs.Told.{told}

@@ -1,4 +1,3 @@
-use borrow.Author.Rules.{rules}
 use Rattle.plain.proofs.Calls.{call-is}
 use Rattle.bridge_writer.proofs.packet.citp_writer_ptch.Goals as goal
 

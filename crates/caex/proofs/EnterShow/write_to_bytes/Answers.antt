@@ -1,4 +1,3 @@
-use borrow.Author.Rules.{rules}
 use Rattle.put.proofs.Bodies.{bodies}
 use Rattle.caex.proofs.EnterShow.write_to_bytes.Goals as goal
 

@@ -1,6 +1,3 @@
-use mathlib.Core.Path.{◌≡◌}
-use Rattle.format.specs.Passed.{passed}
-use Rattle.protocol.specs.Kind.{feed_name_format}
 use Rattle.caex.proofs.Reading.{feed-needs as needs, names-passed}
 use Rattle.caex.proofs.FeedNames.pass.Goals as goal
 

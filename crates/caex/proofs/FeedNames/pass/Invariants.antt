@@ -1,7 +1,6 @@
 use mathlib.Core.Path.{◌≡◌}
 use Rattle.format.specs.Passed.{passed}
 use Rattle.protocol.specs.Kind.{feed_name_format}
-use Rattle.caex.proofs.Reading.{feed-needs as needs, names-passed}
 use Rattle.caex.proofs.FeedNames.pass.Given as goal
 
 abbrev pub invariant-loop-more : goal.invariant-loop-more

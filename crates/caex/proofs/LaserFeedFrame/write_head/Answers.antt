@@ -1,4 +1,3 @@
-use borrow.Author.Rules.{rules}
 use Rattle.format.specs.Format.{size}
 use Rattle.put.proofs.Heads.{counted}
 use Rattle.caex.proofs.LaserFeedFrame.write_head.Goals as goal

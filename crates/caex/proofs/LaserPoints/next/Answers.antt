@@ -1,4 +1,3 @@
-use borrow.Author.Rules.{rules}
 use Rattle.format.proofs.Chain.{met}
 use Rattle.protocol.specs.Kind.{laser_point_format}
 use Rattle.wire.proofs.Stepping.{next-done, next-item, next-off}

@@ -1,6 +1,5 @@
 use mathlib.Core.Path.{sym}
 use borrow.Author.Tests.{ne_eqb}
-use borrow.Author.Rules.{rules}
 use Rattle.protocol.specs.Layer.{CAEX, find}
 use Rattle.protocol.specs.Kind as kind
 use Rattle.protocol.specs.Kind.{kind_of, content_type}

@@ -1,5 +1,4 @@
 use mathlib.Core.Path.{refl}
-use borrow.Author.Rules.{rules}
 use Rattle.format.proofs.Chain.{met}
 use Rattle.header.specs.Says.{header_says, header_value}
 use Rattle.citp.proofs.Steps.{step_end, step-short, step-stopped, packet-whole, packet-before, step-packet}

@@ -1,5 +1,4 @@
 use mathlib.Core.Path.{refl}
-use borrow.Author.Rules.{rules}
 use Rattle.protocol.specs.Layer.{PINF, SDMX, FPTC, FSEL, FINF, CAEX}
 use Rattle.citp.proofs.LayerOf.{length-as, pinf-layer, sdmx-layer, fptc-layer, fsel-layer, finf-layer, caex-layer}
 use Rattle.citp.proofs.Message.header_length.Goals as goal

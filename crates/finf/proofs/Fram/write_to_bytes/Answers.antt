@@ -1,4 +1,3 @@
-use borrow.Author.Rules.{rules}
 use Rattle.format.specs.Format.{size}
 use Rattle.put.proofs.Bodies.{bodies}
 use Rattle.finf.proofs.Fram.write_to_bytes.Goals as goal

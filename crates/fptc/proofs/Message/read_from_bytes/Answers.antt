@@ -1,7 +1,5 @@
 use native.Mathlib.Omega.{arith}
-use mathlib.Core.Path.{sym}
 use borrow.Author.Tests.{ne_eqb}
-use borrow.Author.Rules.{rules}
 use Rattle.protocol.specs.Layer.{FPTC, find}
 use Rattle.protocol.specs.Kind as kind
 use Rattle.protocol.specs.Kind.{kind_of, content_type}

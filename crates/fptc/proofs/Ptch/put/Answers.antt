@@ -1,4 +1,3 @@
-use borrow.Author.Rules.{rules}
 use Rattle.put.proofs.Writing.{put-pair, put-cstring, cstring-pair}
 use Rattle.fptc.proofs.Ptch.put.Goals as goal
 

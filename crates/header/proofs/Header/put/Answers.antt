@@ -1,4 +1,3 @@
-use borrow.Author.Rules.{rules}
 use Rattle.put.proofs.Writing.{put-pair}
 use Rattle.header.proofs.Header.put.Goals as goal
 

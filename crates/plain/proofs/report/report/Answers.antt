@@ -1,4 +1,3 @@
-use borrow.Author.Rules.{rules}
 use Rattle.plain.proofs.Told.{reported}
 use Rattle.plain.proofs.report.report.Goals as goal
 

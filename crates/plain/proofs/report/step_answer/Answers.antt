@@ -1,5 +1,4 @@
 use mathlib.Core.Path.{refl, ◌∙◌}
-use borrow.Author.Rules.{rules}
 use Rattle.citp.specs.Says.{step_says}
 use Rattle.plain.specs.Report.{flat_step}
 use Rattle.plain.proofs.Told.{told}

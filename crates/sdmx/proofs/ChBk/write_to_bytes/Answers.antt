@@ -1,4 +1,3 @@
-use borrow.Author.Rules.{rules}
 use Rattle.format.specs.Format.{size}
 use Rattle.put.proofs.Bodies.{bodies}
 use Rattle.sdmx.proofs.ChBk.write_to_bytes.Goals as goal

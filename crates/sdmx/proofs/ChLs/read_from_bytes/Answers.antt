@@ -1,4 +1,3 @@
-use borrow.Author.Rules.{rules}
 use Rattle.format.proofs.Chain.{met}
 use Rattle.protocol.specs.Kind.{channel_level_format}
 use Rattle.wire.specs.Says.{items_says}

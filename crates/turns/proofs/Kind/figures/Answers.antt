@@ -1,4 +1,3 @@
-use borrow.Author.Rules.{rules}
 use mathlib.Core.Path.{refl}
 use Rattle.turns.proofs.Laws.{row_as}
 use Rattle.turns.proofs.Kind.figures.Goals as goal

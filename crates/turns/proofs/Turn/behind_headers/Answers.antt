@@ -1,4 +1,3 @@
-use borrow.Author.Rules.{rules}
 use Rattle.turns.proofs.Turn.behind_headers.Goals as goal
 
 pub returns-in-Body : goal.returns-in-Body

@@ -1,4 +1,3 @@
-use borrow.Author.Rules.{rules}
 use Rattle.turns.proofs.Turn.is_close.Goals as goal
 
 pub returns-in-Items : goal.returns-in-Items

@@ -1,4 +1,3 @@
-use borrow.Author.Rules.{rules}
 use Rattle.turns.proofs.Turn.is_data.Goals as goal
 
 pub returns-in-Parts : goal.returns-in-Parts

@@ -1,4 +1,3 @@
-use borrow.Author.Rules.{rules}
 use Rattle.turns.proofs.Turn.is_item.Goals as goal
 
 pub returns-in-Idle : goal.returns-in-Idle

@@ -1,5 +1,4 @@
 use native.Mathlib.Omega.{arith}
-use borrow.Author.Rules.{rules}
 use Rattle.wire.proofs.Blocks.{block-past, block-whole, block-clipped}
 use Rattle.wire.proofs.Block.bytes.Goals as goal
 

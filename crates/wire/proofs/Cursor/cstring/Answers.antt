@@ -1,5 +1,4 @@
 use native.Mathlib.Omega.{arith}
-use borrow.Author.Rules.{rules}
 use Rattle.wire.proofs.Strings.{cstring-refused, cstring-taken}
 use Rattle.wire.proofs.Cursor.cstring.Goals as goal
 

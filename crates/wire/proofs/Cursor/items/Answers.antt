@@ -2,7 +2,6 @@ use Prim.Native.Nat.{◌*◌, ◌≤◌, ◌<◌}
 use mathlib.Core.Path.{sym, ◌∙◌}
 use native.Mathlib.Omega.{arith}
 use borrow.Author.Tests.{leb-true, leb-false}
-use borrow.Author.Rules.{rules}
 use Rattle.format.proofs.Chain.{met}
 use Rattle.wire.specs.Says.{u16_says}
 use Rattle.wire.proofs.Stepping.{items-there, items-off, items-short}

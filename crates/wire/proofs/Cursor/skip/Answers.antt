@@ -1,5 +1,4 @@
 use native.Mathlib.Omega.{arith}
-use borrow.Author.Rules.{rules}
 use Rattle.wire.proofs.Stepping.{room-there, room-short}
 use Rattle.wire.proofs.Cursor.skip.Goals as goal
 

@@ -1,5 +1,4 @@
 use native.Mathlib.Omega.{arith}
-use borrow.Author.Rules.{rules}
 use Rattle.wire.proofs.Numbers.{number-2, number_short}
 use Rattle.wire.proofs.Cursor.u16.Goals as goal
 

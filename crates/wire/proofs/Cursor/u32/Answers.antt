@@ -1,5 +1,4 @@
 use native.Mathlib.Omega.{arith}
-use borrow.Author.Rules.{rules}
 use Rattle.wire.proofs.Numbers.{number-4, number_short}
 use Rattle.wire.proofs.Cursor.u32.Goals as goal
 

@@ -1,4 +1,3 @@
-use borrow.Author.Rules.{rules}
 use Rattle.format.specs.Format.{number}
 use Rattle.format.proofs.Chain.{met}
 use Rattle.wire.specs.Says.{items_says}

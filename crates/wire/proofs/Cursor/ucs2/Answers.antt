@@ -1,5 +1,4 @@
 use native.Mathlib.Omega.{arith}
-use borrow.Author.Rules.{rules}
 use Rattle.wire.proofs.Strings.{ucs2-refused, ucs2-taken}
 use Rattle.wire.proofs.Cursor.ucs2.Goals as goal
 

@@ -1,5 +1,4 @@
 use native.Mathlib.Omega.{arith}
-use borrow.Author.Rules.{rules}
 use Rattle.wire.proofs.Numbers.{units-numbers}
 use Rattle.wire.proofs.Copying.{numbers-7, numbers-13, numbers-copied}
 use Rattle.wire.proofs.U16List.copy.Goals as goal

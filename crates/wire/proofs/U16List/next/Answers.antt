@@ -1,5 +1,3 @@
-use native.Mathlib.Omega.{arith}
-use borrow.Author.Rules.{rules}
 use Rattle.format.specs.Format.{number}
 use Rattle.format.proofs.Chain.{met}
 use Rattle.wire.specs.Says.{u16_says}

@@ -1,4 +1,3 @@
-use borrow.Author.Rules.{rules}
 use Rattle.writer.proofs.Writer.chls_place.Goals as goal
 
 pub returns-then-body_is_due : goal.returns-then-body_is_due

@@ -1,4 +1,3 @@
-use borrow.Author.Rules.{rules}
 use Rattle.writer.proofs.Calls.{closed, close-refused, out-of-turn}
 use Rattle.writer.proofs.Writer.close.Goals as goal
 

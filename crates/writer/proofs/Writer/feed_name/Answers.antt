@@ -1,4 +1,3 @@
-use borrow.Author.Rules.{rules}
 use Rattle.writer.proofs.Calls.{gave, out-of-turn}
 use Rattle.writer.proofs.Writer.feed_name.Goals as goal
 

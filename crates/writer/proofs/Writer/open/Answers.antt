@@ -1,4 +1,3 @@
-use borrow.Author.Rules.{rules}
 use Rattle.writer.proofs.Calls.{opened, out-of-turn}
 use Rattle.writer.proofs.Writer.open.Goals as goal
 

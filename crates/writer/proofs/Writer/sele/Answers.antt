@@ -1,4 +1,3 @@
-use borrow.Author.Rules.{rules}
 use mathlib.Core.Path.{refl}
 use Rattle.writer.proofs.Calls.{gave, out-of-turn}
 use Rattle.writer.proofs.Writer.sele.Goals as goal

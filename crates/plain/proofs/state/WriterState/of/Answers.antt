@@ -1,5 +1,4 @@
 use Prim.Native.Nat.{◌%◌}
-use borrow.Author.Rules.{rules}
 use Rattle.plain.proofs.Calls.{state-of, state-at}
 use Rattle.plain.proofs.state.WriterState.of.Goals as goal
 

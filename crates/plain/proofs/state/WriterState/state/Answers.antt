@@ -1,4 +1,3 @@
-use borrow.Author.Rules.{rules}
 use Rattle.plain.proofs.state.WriterState.state.Goals as goal
 
 pub returns : goal.returns

@@ -1,5 +1,4 @@
 use mathlib.Core.Path.{◌∙◌}
-use borrow.Author.Rules.{rules}
 use Rattle.plain.specs.State.{kind_says, turn_of}
 use Rattle.plain.proofs.Told.{told}
 use Rattle.plain.proofs.Calls.{turn-idle, turn-parts, turn-by-kind, turn_body, turn-items, turn-none}
