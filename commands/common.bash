@@ -10,7 +10,7 @@ trap '' PIPE
 root=$(dirname "$(readlink -f "$0")")
 command=$(basename "$(readlink -f "$0")")
 crate=${command//-/_}
-program=$root/target/bin/$crate
+program=$root/crates/$crate/out/$crate
 longest=65536
 
 # say STATUS WORDS: the one line on standard error, and the end.
@@ -55,15 +55,16 @@ crates() {
             n = split(needs[crate], list)
             for (i = 1; i <= n; i++) add(list[i])
         }
-        /^[^#]/ { name = $1; sub(/:$/, "", name); $1 = ""; needs[name] = $0 }
+        /^[^#]/ { name = $1; sub(/:$/, "", name); sub(/[^:]*:/, ""); needs[name] = $0 }
         END { add(crate) }' "$root/crates.txt"
 }
 
-# Whether the program is there and none of its sources is newer.
+# Whether the program is there and none of its sources is newer; the out/ of a crate, which rt makes, is none.
 is_built() {
     [ -x "$program" ] || return 1
     mapfile -t sources < <(crates)
-    [ -z "$(cd "$root" && find crates.txt "${sources[@]/#/crates/}" -newer "$program" -print -quit)" ]
+    [ -z "$(cd "$root" && find crates.txt "${sources[@]/#/crates/}" -name out -prune -o \
+        -newer "$program" ! -regex 'crates/[^/]*' -print -quit)" ]
 }
 
 # Says which crate is being proved, out of what rt prints; on a terminal one line is written over.
@@ -72,7 +73,7 @@ progress() {
     all=$(crates | wc -l)
     [ ! -t 2 ] || before=$'\r' after=''
     while [ "$n" = 0 ] || read -r line; do
-        if [ "$n" = 0 ] || [[ $n -lt $all && $line =~ ^rt:\ [a-z0-9_]+\ proved ]]; then
+        if [ "$n" = 0 ] || [[ $n -lt $all && $line == logic=proved\ * ]]; then
             n=$((n + 1))
             printf '%s%s: proving and building, once: crate %d of %d%s' "$before" "$command" "$n" "$all" "$after" >&2
         fi
@@ -80,15 +81,19 @@ progress() {
     [ -n "$after" ] || echo >&2
 }
 
+# Proves and builds the program, and runs it on the stored stream, which must give the stored listing.
+prove() {
+    cd "$root/crates/$crate" && rt run < stdin | cmp - stdout
+}
+
 build() {
     command -v rt > /dev/null || say 3 'the program is not built, or older than its sources, and rt, the Rattle toolchain, is not installed'
     log=$root/target/$command.log
     { mkdir -p "$root/target" && : > "$log"; } 2> /dev/null || say 3 "the program cannot be built: $root/target cannot be written"
-    [ -x "$program" ] || rm -f "$root/target/stamp/$crate"
-    # rt links the program before it runs it: until the check has passed it is not taken for built, and what changes meanwhile is newer
+    # rt links the program before it runs it: until that has passed it is not taken for built, and what changes meanwhile is newer
     trap 'rm -f "$program"' EXIT
     begun=$(date +%s.%N)
-    if ! (cd "$root" && rt check "$crate") 2>&1 < /dev/null | tee "$log" | progress || [ ! -x "$program" ]; then
+    if ! (prove) 2>&1 < /dev/null | tee "$log" | progress || [ ! -x "$program" ]; then
         say 3 "the program could not be built: $log says why"
     fi
     touch -d "@$begun" "$program"

@@ -116,29 +116,34 @@ outputs() {
     expect 0 "$listed" "$rig: $found" elsewhere "$list" "$rig"
 }
 
-# A tree with the command and the names of the crates alone, and an rt that notes its words and does what the real one does: it reads its
-# input, and builds where there is no stamp. It waits where there is a file `wait`, and fails where there is one `broken`.
+# A tree with the command and the names of the crates alone, and an rt that notes its words and does what the real one does: it builds the
+# program, and runs it on the input. It waits where there is a file `wait`, fails where there is one `broken`, builds nothing where there is
+# one `linkless`, and prints another listing where there is one `astray`.
 stand_in() {
     mkdir -p "$here/tree/bin"
     cp -r "$command" commands crates.txt "$here/tree"
-    sed -n 's/^\([a-z0-9_]*\):.*/\1/p' crates.txt | while read -r crate; do
+    sed -n 's/^\([a-z0-9_]*\)[a-z ]*:.*/\1/p' crates.txt | while read -r crate; do
         mkdir -p "$here/tree/crates/$crate/src"
     done
+    cp "crates/$crate/stdin" "crates/$crate/stdout" "$here/tree/crates/$crate"
     cat > "$here/tree/bin/rt" << END
 #!/bin/sh
-cat > /dev/null
-echo "\$*" >> calls
-mkdir -p target/bin target/stamp
-[ -e target/stamp/$crate ] || [ -e linkless ] || cp "$program" target/bin/
-[ ! -e broken ] || { echo 'rt: $crate proved, and its run FAILED (1 s)'; exit 1; }
-echo 'rt: format proved (1 s)'
-echo 'rt: search proved (unchanged since it was last proved)'
+cmp - stdin || exit 1
+at=\${PWD##*/}
+cd ../..
+echo "\$* \$at" >> calls
+mkdir -p crates/$crate/out
+[ -e linkless ] || cp "$program" crates/$crate/out/
+[ ! -e broken ] || { echo 'rt: the program was stopped' >&2; exit 1; }
+for i in 1 2; do echo 'logic=proved functions=9' >&2; done
 while [ -e wait ]; do sleep 0.1; done
-for i in \$(seq $((crates - 2))); do echo "rt: crate_\$i proved (1 s)"; done
-touch target/stamp/$crate
+for i in \$(seq $((crates - 2))); do echo "logic=proved functions=\$i" >&2; done
+[ ! -e astray ] || echo packets=0
+cat crates/$crate/stdout
 END
     chmod +x "$here/tree/bin/rt"
     list=$here/tree/$command
+    built=$here/tree/crates/$crate/out/$crate
     PATH=$here/tree/bin:$PATH
 }
 
@@ -146,7 +151,7 @@ END
 calls() {
     tried=$((tried + 1))
     touch "$here/tree/calls"
-    [ "$(grep -cx "check $crate" "$here/tree/calls")" = "$1" ] || wrong "rt check $crate was not called $1 times" "$2"
+    [ "$(grep -cx "run $crate" "$here/tree/calls")" = "$1" ] || wrong "rt run was not called $1 times in crates/$crate" "$2"
 }
 
 # While it builds it says how far it is, and rt does not take the input.
@@ -168,9 +173,9 @@ tells() {
 rebuilds() {
     expect 0 "$listed" "$rig: $found" "$list" "$rig"
     calls 1 'for a program that is built'
-    for source in crates.txt crates/search/src "crates/$crate"; do
-        touch -d '1 hour ago' "$here/tree/target/bin/$crate"
+    for source in crates.txt crates/search/src "crates/$crate/src"; do
         find "$here/tree/crates" "$here/tree/crates.txt" -exec touch -d '2 hours ago' {} +
+        touch -d '1 hour ago' "$built"
         expect 0 "$listed" "$rig: $found" "$list" "$rig"
         touch -d '30 minutes ago' "$here/tree/$source"
         before=$(wc -l < "$here/tree/calls")
@@ -179,24 +184,28 @@ rebuilds() {
         calls $((before + 1)) "where $source is newer, once"
     done
     before=$(wc -l < "$here/tree/calls")
-    touch "$here/tree/crates/lamps"
+    touch "$here/tree/crates/lamps/src"
+    mkdir -p "$here/tree/crates/search/out/rlib"
     expect 0 "$listed" "$rig: $found" "$list" "$rig"
-    calls "$before" 'where a crate that it does not stand on is newer'
-    rm "$here/tree/target/bin/$crate"
+    calls "$before" 'where a crate that it does not stand on is newer, or what rt made'
+    rm "$built"
     expect 0 "$listed" "$rig: $found" "$list" "$rig"
     calls $((before + 1)) 'where the program is gone'
 }
 
 fails() {
-    cp /bin/false "$here/tree/target/bin/$crate"
+    cp /bin/false "$built"
     expect 3 $nothing "$rig: the program failed: there is no listing" "$list" "$rig"
-    rm -r "$here/tree/target"
+    rm -r "$here/tree/target" "$built"
     touch "$here/tree/broken"
     for _ in 1 2; do
         expect 3 $nothing "the program could not be built: */target/$command.log says why" "$list" "$rig"
-        grep -q 'its run FAILED' "$here/tree/target/$command.log" || wrong 'does not say why' "target/$command.log"
+        grep -q 'the program was stopped' "$here/tree/target/$command.log" || wrong 'does not say why' "target/$command.log"
     done
-    mv "$here/tree/broken" "$here/tree/linkless"
+    mv "$here/tree/broken" "$here/tree/astray"
+    expect 3 $nothing "the program could not be built: */target/$command.log says why" "$list" "$rig"
+    grep -q 'stdout differ' "$here/tree/target/$command.log" || wrong 'does not say why' "target/$command.log"
+    mv "$here/tree/astray" "$here/tree/linkless"
     expect 3 $nothing "the program could not be built: */target/$command.log says why" "$list" "$rig"
     rm -r "$here/tree/target" && touch "$here/tree/target"
     expect 3 $nothing 'the program cannot be built: */target cannot be written' "$list" "$rig"
@@ -220,7 +229,7 @@ builds() {
 try_all() {
     list=$root/$command
     crate=${command//-/_}
-    program=$root/target/bin/$crate
+    program=$root/crates/$crate/out/$crate
     streams
     lengths
     arguments
