@@ -4,7 +4,8 @@
 
 use citp::{Cursor, Message, PacketReport, Report, Step};
 use dimmer::{CHANNELS, Dimmer};
-use intake::{has_argument, read_all};
+use intake::read_all;
+use std::env::FillError;
 use std::rt::Env;
 
 // ---- lines
@@ -171,6 +172,11 @@ fn tell_argument(stderr: &impl Print, argument: &[u8]) {
     complain(stderr, b"citp_levels: ");
     complain(stderr, argument);
     complain(stderr, b": not a universe, a decimal number of 0 to 255\n");
+}
+
+// Whether there are so many arguments behind the program's name, or more.
+fn has_argument(env: &impl Env, number: usize) -> bool {
+    !matches!(env.arg(number, &mut []), Err(FillError::NotPresent))
 }
 
 // The universe of the argument; that it names none is told. One that is too long fills the buffer.

@@ -4,7 +4,8 @@
 
 use capabilities::{Unsupported, list_unsupported};
 use citp::{Cursor, Message, PacketReport, Report, Step};
-use intake::{has_argument, read_all};
+use intake::read_all;
+use std::env::FillError;
 use std::fmt::InlineText;
 use std::io::ErrorKind;
 use std::rt::{Env, Files};
@@ -161,6 +162,11 @@ fn read_file(rt: &impl Files, stderr: &impl Print, name: &[u8], buf: &mut [u8]) 
 
 // Linux's number of the words `File name too long`.
 const NAME_TOO_LONG: i32 = 36;
+
+// Whether there are so many arguments behind the program's name, or more.
+fn has_argument(env: &impl Env, number: usize) -> bool {
+    !matches!(env.arg(number, &mut []), Err(FillError::NotPresent))
+}
 
 // The file that an argument names. A name that is too long fills its buffer.
 fn read_argument(rt: &(impl Env + Files), stderr: &impl Print, i: usize, buf: &mut [u8]) -> Input {

@@ -1,14 +1,12 @@
-// What a program is given: its arguments, and inputs read into buffers of a fixed length.
+// Inputs read into buffers of a fixed length.
 #![tactic(auto)]
 
 ghost use Rattle.std.specs.Prelude.{◌≡◌, ◌<◌, ◌≤◌, length, take, IfOk, OnOk};
 ghost use Rattle.std.specs.Io.{ReadsAtMost};
 ghost use Rattle.std.specs.Io.KnownBytes.{Consumes, IsAtEnd};
 
-use std::env::FillError;
 use std::io;
 use std::io::Read;
-use std::rt::Env;
 
 // Reads until the buffer is full, the input ends or a read fails: how many bytes it put at the start of the buffer, and the failure.
 fn fill<R: Read>(input: &mut R, buf: &mut [u8]) -> (usize, io::Result<()>)
@@ -46,11 +44,6 @@ pub fn read_all<R: Read>(input: &mut R, buf: &mut [u8]) -> io::Result<usize>
     let (n, result) = fill(input, buf);
     result?;
     Ok(n)
-}
-
-// Whether there are so many arguments behind the program's name, or more.
-pub fn has_argument(env: &impl Env, number: usize) -> bool {
-    !matches!(env.arg(number, &mut []), Err(FillError::NotPresent))
 }
 
 #[cfg(test)]
