@@ -5,7 +5,7 @@ use std::io::Read;
 
 /// The crates under the exported functions that the comparison calls; the patch book is not among them.
 const CRATES: [&str; 18] = [
-    "search", "wire", "put", "floats", "header", "pinf", "sdmx", "fptc", "fsel", "finf", "fixture", "caex", "chls",
+    "refusal", "search", "wire", "put", "floats", "header", "pinf", "sdmx", "fptc", "fsel", "finf", "fixture", "caex",
     "layers", "citp", "turns", "writer", "plain",
 ];
 

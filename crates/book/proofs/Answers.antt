@@ -2,10 +2,10 @@
 use Prim.Native.Nat.{ℕ, ◌<◌, ◌≤◌}
 use mathlib.Core.Path.{◌≡◌, refl, sym, ap, ap₂, ◌∙◌, subst}
 use mathlib.Core.Bool.{Bool, true, false, not, ◌&&◌, and-true, and-false, true≢false}
-use mathlib.Core.List.{List, ◌++◌, append_assoc}
+use mathlib.Core.List.{List, ◌++◌}
 use native.Mathlib.Omega.{arith}
-use lib.ListN.{length, take, drop, take-append-drop}
-use lib.Seq.{length-take-le, drop-append-le}
+use lib.ListN.{length, take, drop}
+use lib.Seq.{length-take-le}
 use lib.Dec.{leb, eqb}
 use borrow.Author.Tests.{leb-false, eqb-true, eqb-false}
 use Rattle.format.specs.Format.{pick}
@@ -16,8 +16,9 @@ use Rattle.patching.proofs.Fields.{entry_whole}
 use Rattle.patching.proofs.Lists.{filter-length, filter-less, filter-all}
 use Rattle.unpatch.specs.Unpatch.{Dropped}
 use Rattle.book.specs.Scan.{Owned, Finds}
-use Rattle.book.specs.declared.Found.{Found}
+use Rattle.book.specs.declared.Place.{Place}
 use Rattle.book.proofs.Held.{held-within, held-take}
+use Rattle.book.proofs.Replaced.{overwrite-front}
 
 -- the tests on e's fixture, by how many entries it has
 module _ {e : Entry} {l : List Entry} {end own owns : ℕ} (o : Owned e l end own owns) where
@@ -85,8 +86,13 @@ by_number f count ws =
     let n : Entry → ℕ = λ x. numbered x count ws (misfits x) (any (clashes x) l) (is_full (room_in ws) x l) in
     ap (λ (x : Entry). given x count ws (n x) x) (entry_whole (entry_of f))
 
--- ---- what the code of a patch knows: r entries are held, and f was found among them
-module _ (e : Entry) (count : ℕ) (ws : List Entry) (r : ℕ) (q : r ≡ length (held count ws)) (f : Found) (found : Finds e (take r ws) f) where
+-- ---- what the code of a patch knows: r entries are held
+module _ (e : Entry) (count : ℕ) (ws : List Entry) (r : ℕ) (q : r ≡ length (held count ws)) where
+  pub finds-clash : misfits e ≡ false → any (clashes e) (take r ws) ≡ true → (17, count, ws) ≡ answer (patch (fields e)) count ws
+  finds-clash m t = clashed e count ws m (ap (any (clashes e)) (sym (held-take count ws r q)) ∙ t)
+
+-- and f was found among them
+module _ (e : Entry) (count : ℕ) (ws : List Entry) (r : ℕ) (q : r ≡ length (held count ws)) (f : Place) (found : Finds e (take r ws) f) where
   abbrev entries : List Entry
   entries = insert e (others e (take r ws))
 
@@ -96,62 +102,48 @@ module _ (e : Entry) (count : ℕ) (ws : List Entry) (r : ℕ) (q : r ≡ length
   as_many : length (take r ws) ≡ r
   as_many = length-take-le r ws (held-within count ws r q)
 
-  pub finds-clash : misfits e ≡ false → f.clash ≡ true → (17, count, ws) ≡ answer (patch (fields e)) count ws
-  finds-clash m t = clashed e count ws m (sym finds.clash ∙ t)
+  -- the code's test of the room, of n words
+  module _ (n : ℕ) (p : n ≡ room_in ws) where
+    same_test : (eqb f.own_count 0 && leb n r) ≡ is_full (room_in ws) e (held count ws)
+    same_test = ap₂ (λ (k m : ℕ). eqb f.own_count 0 && leb k m) p q ∙ full_by finds.owned (room_in ws)
 
-  module _ (clear : f.clash ≡ false) where
-    owned : Owned e (held count ws) (length (held count ws)) f.own_at f.own_count
-    owned = finds.owned clear
+    pub finds-full : misfits e ≡ false → {b : Bool} → b ≡ (eqb f.own_count 0 && leb n r) → b ≡ true
+        → (18, count, ws) ≡ answer (patch (fields e)) count ws
+    finds-full m t h = no_room e count ws m finds.clear (sym same_test ∙ sym t ∙ h)
 
-    -- the code's test of the room, of n words
-    module _ (n : ℕ) (p : n ≡ room_in ws) where
-      same_test : (eqb f.own_count 0 && leb n r) ≡ is_full (room_in ws) e (held count ws)
-      same_test = ap₂ (λ (k m : ℕ). eqb f.own_count 0 && leb k m) p q ∙ full_by owned (room_in ws)
+    pub finds-room : {b : Bool} → b ≡ (eqb f.own_count 0 && leb n r) → b ≡ false → length (others e (take r ws)) < length ws
+    finds-room t h = go (eqb f.own_count 0) refl (leb n r) refl (sym t ∙ h)
+      where
+        go : (a : Bool) → eqb f.own_count 0 ≡ a → (b : Bool) → leb n r ≡ b → (a && b) ≡ false → length (others e (take r ws)) < length ws
+        go true x true y z = absurd (true≢false z)
+        go true x false y z =
+            let k : r < n = leb-false n r y in
+            omega (arith, found.owned.as_many, as_many)
+        go false x b y z =
+            let k : f.own_count ≡ 0 → ⊥ = eqb-false f.own_count 0 x in
+            let o : 0 < f.own_count = omega arith in
+            omega (arith, found.owned.as_many, as_many, held-within count ws r q)
 
-      pub finds-full : misfits e ≡ false → {b : Bool} → b ≡ (eqb f.own_count 0 && leb n r) → b ≡ true
-          → (18, count, ws) ≡ answer (patch (fields e)) count ws
-      finds-full m t h = no_room e count ws m (sym finds.clash ∙ clear) (sym same_test ∙ sym t ∙ h)
+  -- it was put in its place
+  put : misfits e ≡ false → is_full (room_in ws) e (held count ws) ≡ false → (k : ℕ) (zs : List Entry) → (k ≡ length entries) × (zs ≡ overwrite entries ws)
+      → (0, k, zs) ≡ answer (patch (fields e)) count ws
+  put m u k zs (p, z) =
+      let w : take r ws ≡ held count ws = held-take count ws r q in
+      accepted e count ws m finds.clear k zs u
+      (p ∙ ap (λ (l : List Entry). length (insert e (others e l))) w)
+      (z ∙ ap (λ (l : List Entry). overwrite (insert e (others e l)) ws) w)
 
-      pub finds-room : {b : Bool} → b ≡ (eqb f.own_count 0 && leb n r) → b ≡ false → length (others e (take r ws)) < length ws
-      finds-room t h = go (eqb f.own_count 0) refl (leb n r) refl (sym t ∙ h)
-        where
-          go : (a : Bool) → eqb f.own_count 0 ≡ a → (b : Bool) → leb n r ≡ b → (a && b) ≡ false → length (others e (take r ws)) < length ws
-          go true x true y z = absurd (true≢false z)
-          go true x false y z =
-              let k : r < n = leb-false n r y in
-              omega (arith, (found.owned clear).as_many, as_many)
-          go false x b y z =
-              let k : f.own_count ≡ 0 → ⊥ = eqb-false f.own_count 0 x in
-              let o : 0 < f.own_count = omega arith in
-              omega (arith, (found.owned clear).as_many, as_many, held-within count ws r q)
-
-    -- it was put in its place
-    put : misfits e ≡ false → is_full (room_in ws) e (held count ws) ≡ false → (k : ℕ) (zs : List Entry) → (k ≡ length entries) × (zs ≡ overwrite entries ws)
-        → (0, k, zs) ≡ answer (patch (fields e)) count ws
-    put m u k zs (p, z) =
-        let w : take r ws ≡ held count ws = held-take count ws r q in
-        accepted e count ws m (sym finds.clash ∙ clear) k zs u
-        (p ∙ ap (λ (l : List Entry). length (insert e (others e l))) w)
-        (z ∙ ap (λ (l : List Entry). overwrite (insert e (others e l)) ws) w)
-
-    pub finds-put : (n : ℕ) → n ≡ room_in ws → misfits e ≡ false → {b : Bool} → b ≡ (eqb f.own_count 0 && leb n r) → b ≡ false
-        → {k : ℕ} {zs : List Entry} → (k ≡ length entries) × (zs ≡ overwrite entries ws) → (0, k, zs) ≡ answer (patch (fields e)) count ws
-    finds-put n p m t h = put m (sym (same_test n p) ∙ sym t ∙ h) _ _
+  pub finds-put : (n : ℕ) → n ≡ room_in ws → misfits e ≡ false → {b : Bool} → b ≡ (eqb f.own_count 0 && leb n r) → b ≡ false
+      → {k : ℕ} {zs : List Entry} → (k ≡ length entries) × (zs ≡ overwrite entries ws) → (0, k, zs) ≡ answer (patch (fields e)) count ws
+  finds-put n p m t h = put m (sym (same_test n p) ∙ sym t ∙ h) _ _
 
 -- ---- an unpatch, of which the code knows the r entries held: w stay, and stand first among them
 module _ (count : ℕ) (ws : List Entry) (r : ℕ) (q : r ≡ length (held count ws)) (ids : List ℕ) where
   abbrev stay : List Entry
   stay = without ids (take r ws)
 
-  overwrite-whole : overwrite stay (take r ws) ++ drop r ws ≡ overwrite stay ws
-  overwrite-whole =
-      let n : length (take r ws) ≡ r = length-take-le r ws (held-within count ws r q) in
-      append_assoc stay (drop (length stay) (take r ws)) (drop r ws)
-      ∙ ap (λ (t : List Entry). stay ++ t)
-      (sym (drop-append-le (length stay) (take r ws) (drop r ws) (filter-length (λ x. not (drops ids (key (fields x)))) (take r ws)))
-      ∙ ap (drop (length stay)) (take-append-drop r ws))
-
   pub unpatched : {k : ℕ} {zs : List Entry} → Dropped ids (take r ws) k zs → (0, k, zs ++ drop r ws) ≡ answer (unpatch ids) count ws
   unpatched d =
-      ap₂ (λ (k : ℕ) (l : List Entry). (0, k, l)) d.count (ap (λ (l : List Entry). l ++ drop r ws) d.words ∙ overwrite-whole)
+      let w : length stay ≤ length (take r ws) = filter-length (λ x. not (drops ids (key (fields x)))) (take r ws) in
+      ap₂ (λ (k : ℕ) (l : List Entry). (0, k, l)) d.count (ap (λ (l : List Entry). l ++ drop r ws) d.words ∙ overwrite-front stay ws r w)
       ∙ ap (λ (l : List Entry). (0, length (without ids l), overwrite (without ids l) ws)) (held-take count ws r q)

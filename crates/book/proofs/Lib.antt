@@ -4,3 +4,4 @@ pub mod Replaced
 pub mod Held
 pub mod Answers
 pub mod Bodies
+pub mod Exact

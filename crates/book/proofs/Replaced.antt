@@ -1,15 +1,33 @@
 -- An entry in place of its fixture's: what the moves make of the words lent. Assumes nothing.
 use Prim.Native.Nat.{ℕ, zero, suc, ◌+◌, ◌-◌, ◌<◌, ◌≤◌}
 use mathlib.Core.Path.{◌≡◌, refl, sym, ap, ap₂, ◌∙◌}
-use mathlib.Core.List.{List, ◌∷◌, ◌++◌, append_assoc}
+use mathlib.Core.Bool.{Bool, not}
+use mathlib.Core.List.{List, [], ◌∷◌, ◌++◌, append_assoc}
 use native.Mathlib.Omega.{arith}
 use native.Mathlib.Numerals.{add-one}
 use lib.ListN.{length, take, drop, take-append-drop, length-append, length-drop}
 use lib.Seq.{length-take-le, take-take, take-append-le, drop-append-le, take-append_seam, drop-append-add, drop-drop}
-use Rattle.patching.specs.Entry.{Entry, insert}
-use Rattle.patching.specs.Book.{others, overwrite}
+use Rattle.format.specs.Format.{pick}
+use Rattle.patching.specs.Entry.{Entry, identifier, same, insert}
+use Rattle.patching.specs.Book.{filter, others, without, overwrite}
+use Rattle.patching.proofs.Lists.{filter-length}
+use Rattle.unpatch.specs.Unpatch.{Dropped}
+use Rattle.unpatch.proofs.Listed.{among_one}
 use Rattle.patching.proofs.Entries.{insert-length}
 use Rattle.book.specs.Scan.{remove_at, insert_at, Owned}
+
+-- no more entries than the first n words hold, put first among these: so they stand first among all
+pub overwrite-front : (w ws : List Entry) (n : ℕ) → length w ≤ length (take n ws) → overwrite w (take n ws) ++ drop n ws ≡ overwrite w ws
+overwrite-front w ws n h =
+    append_assoc w (drop (length w) (take n ws)) (drop n ws)
+    ∙ ap (λ (t : List Entry). w ++ t) (sym (drop-append-le (length w) (take n ws) (drop n ws) h) ∙ ap (drop (length w)) (take-append-drop n ws))
+
+-- the entries of a fixture are those of its identifier
+without-own : (e : Entry) (l : List Entry) → without (identifier e ∷ []) l ≡ others e l
+unfolding filter
+without-own e [] = refl
+without-own e (x ∷ l) =
+    ap₂ (λ (b : Bool) (t : List Entry). pick b (x ∷ t) t) (ap not (among_one (identifier e) (identifier x))) (without-own e l)
 
 module _ (e : Entry) (ws : List Entry) (n : ℕ) (long : n ≤ length ws) where
   abbrev l : List Entry
@@ -63,6 +81,13 @@ module _ (e : Entry) (ws : List Entry) (n : ℕ) (long : n ≤ length ws) where
   others-overwrite =
       ap₂ (λ (s t : List Entry). s ++ t) (take-append_seam O (drop (length O) ws))
       (drop-append-add O (drop (length O) ws) 1 ∙ drop-drop 1 (length O) ws)
+
+  pub dropped-own : {k : ℕ} {zs : List Entry} → Dropped (identifier e ∷ []) l k zs → (k ≡ length O) × (zs ++ drop n ws ≡ overwrite O ws)
+  dropped-own d = (
+    d.count ∙ ap length (without-own e l),
+    ap (λ (t : List Entry). t ++ drop n ws) (d.words ∙ ap (λ (t : List Entry). overwrite t l) (without-own e l))
+        ∙ overwrite-front O ws n (filter-length (λ x. not (same e x)) l),
+  )
 
   pub overwrite-as-many : length O ≤ length ws → length (overwrite O ws) ≡ length ws
   overwrite-as-many h = omega (arith, length-append O (drop (length O) ws), length-drop (length O) ws)

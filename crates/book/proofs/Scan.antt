@@ -1,7 +1,7 @@
 -- An entry compared with those held, one after another. Assumes nothing.
 use Prim.Native.Nat.{ℕ, ◌+◌, ◌-◌, ◌<◌, ◌≤◌}
 use mathlib.Core.Path.{◌≡◌, refl, sym, ap, ap₂, ◌∙◌, subst}
-use mathlib.Core.Bool.{Bool, true, false, not, ◌&&◌, ◌||◌, true≢false, false≢true}
+use mathlib.Core.Bool.{Bool, true, false, not, ◌&&◌, ◌||◌}
 use mathlib.Core.List.{List, [], ◌∷◌, ◌++◌, append_assoc, append-nil}
 use native.Mathlib.Omega.{arith}
 use native.Mathlib.Numerals.{add-one}
@@ -14,8 +14,9 @@ use Rattle.patching.specs.Book.{filter, others, clashes}
 use Rattle.patching.proofs.Lists.{filter-append, filter-one}
 use Rattle.patching.proofs.Fields.{shares-comm}
 use Rattle.patching.proofs.Loops.{drop-next}
-use Rattle.book.specs.Scan.{remove_at, insert_at, Owned, Ahead, Behind, Finds}
-use Rattle.book.specs.declared.Compared.{Compared}
+use Rattle.refusal.specs.declared.Refusal.TheVariants.{Shared}
+use Rattle.book.specs.Scan.{remove_at, insert_at, Owned, Ahead, Finds, Clashes}
+use Rattle.book.specs.declared.Place.{Place}
 
 module _ (e : Entry) where
   abbrev other : Entry → Bool
@@ -113,6 +114,9 @@ unfolding filter
 reach-start e l = record { within = omega arith; owned = owned-start e (length l); clear = refl; stands = refl }
 
 module _ {e : Entry} (l : List Entry) {own owns i : ℕ} (r : Reached e l own owns i) where
+  pub as-far : owns ≤ i
+  as-far = omega (arith, r.owned.as_many, length-take i l)
+
   module _ (h : i < length l) where
     abbrev y : Entry
     y = get_or l i 0
@@ -150,32 +154,28 @@ module _ {e : Entry} (l : List Entry) {own owns i : ℕ} (r : Reached e l own ow
             ∙ ap (λ (s : List Entry). s ++ insert e rest) (sym (other-ahead e l i h q));
       }
 
-      pub reach-before : before e y ≡ true → Ahead e l (record { clash = false; own_at = own; own_count = owns; next = i })
+      pub reach-before : before e y ≡ true → Ahead e l (record { hole = own; own_count = owns; to = i - owns })
       reach-before p = record {
+        next = i;
+        passed = omega (arith, as-far);
         within = r.within;
         owned = r.owned;
-        clash = λ t. absurd (false≢true t);
-        clear = λ t. r.clear;
-        stands = λ t. r.stands ∙ ap (λ (t : List Entry). others e (take i l) ++ t) (insert-by true p ∙ ap (λ (t : List Entry). e ∷ t) (sym behind));
+        clear = r.clear;
+        stands = r.stands ∙ ap (λ (t : List Entry). others e (take i l) ++ t) (insert-by true p ∙ ap (λ (t : List Entry). e ∷ t) (sym behind));
       }
 
-      pub reach-clash : shares e y ≡ true → Ahead e l (record { clash = true; own_at = own; own_count = owns; next = i })
-      reach-clash s = record {
-        within = r.within;
-        owned = r.owned;
-        clash = λ t. r.clear ∙ clashed e l i h q s;
-        clear = λ t. absurd (true≢false t);
-        stands = λ t. absurd (true≢false t);
-      }
+      pub reach-clash : shares e y ≡ true → Clashes e l Shared
+      reach-clash s = (refl, r.clear ∙ clashed e l i h q s)
 
-  pub reach-end : length l ≤ i → Ahead e l (record { clash = false; own_at = own; own_count = owns; next = i })
+  pub reach-end : length l ≤ i → Ahead e l (record { hole = own; own_count = owns; to = length l - owns })
   unfolding filter insert
   reach-end h = record {
+    next = i;
+    passed = omega (arith, as-far, r.within);
     within = r.within;
     owned = r.owned;
-    clash = λ t. absurd (false≢true t);
-    clear = λ t. r.clear;
-    stands = λ t. r.stands ∙ ap (λ (t : List Entry). others e (take i l) ++ insert e (others e t)) none_left
+    clear = r.clear;
+    stands = r.stands ∙ ap (λ (t : List Entry). others e (take i l) ++ insert e (others e t)) none_left
         ∙ sym (ap (λ (t : List Entry). others e (take i l) ++ (e ∷ others e t)) none_left);
   }
     where
@@ -184,72 +184,67 @@ module _ {e : Entry} (l : List Entry) {own owns i : ℕ} (r : Reached e l own ow
 
 -- ---- the rest of them
 
-pub record Passed (e : Entry) (l : List Entry) (from own owns i : ℕ) : Type 0 where
+pub record Passed (e : Entry) (l : List Entry) (p : Place) (i : ℕ) : Type 0 where
   pub within : i ≤ length l
-  pub owned : Owned e (take i l) (length l) own owns
-  pub clear : any (clashes e) (drop from l) ≡ any (clashes e) (drop i l)
+  pub owned : Owned e (take i l) (length l) p.hole p.own_count
+  pub clear : any (clashes e) l ≡ any (clashes e) (drop i l)
+  pub stands : (p.to ≤ length (others e l)) × (insert e (others e l) ≡ insert_at p.to e (others e l))
 
-module _ {e : Entry} (l : List Entry) {from own owns i : ℕ} (r : Passed e l from own owns i) where
+module _ (e : Entry) (l : List Entry) {p : Place} (a : Ahead e l p) where
+  abbrev first : List Entry
+  first = others e (take a.next l)
+
+  abbrev last : List Entry
+  last = others e (drop a.next l)
+
+  all : others e l ≡ first ++ last
+  all = ap (others e) (sym (take-append-drop a.next l)) ∙ filter-append (other e) (take a.next l) (drop a.next l)
+
+  ahead-length : length first ≡ p.to
+  ahead-length = omega (arith, a.owned.as_many, length-take-le a.next l a.within, a.passed)
+
+  pub pass-start : Passed e l p (p.to + p.own_count)
+  pass-start =
+      subst (λ (n : ℕ). Passed e l p n) (sym a.passed) (record {
+        within = a.within;
+        owned = a.owned;
+        clear = a.clear;
+        stands = (
+          omega (arith, ap length all, length-append first last, ahead-length),
+          a.stands ∙ sym (ap (insert_at p.to e) all
+              ∙ ap₂ (λ (s u : List Entry). s ++ (e ∷ u)) (take_at first last p.to ahead-length) (drop_at first last p.to ahead-length)),
+        );
+      })
+
+module _ {e : Entry} (l : List Entry) {p : Place} {i : ℕ} (r : Passed e l p i) where
   module _ (h : i < length l) where
     abbrev z : Entry
     z = get_or l i 0
 
-    pub pass-own : same e z ≡ true → Passed e l from i (owns + 1) (i + 1)
+    pub pass-own : same e z ≡ true → Passed e l (record { hole = i; own_count = p.own_count + 1; to = p.to }) (i + 1)
     pass-own q = record {
       within = omega arith;
       owned = owned-own e l i h q r.owned;
       clear = r.clear ∙ own-clear e l i h q;
+      stands = r.stands;
     }
 
     module _ (q : same e z ≡ false) where
-      pub pass-other : shares z e ≡ false → Passed e l from own owns (i + 1)
+      pub pass-other : shares z e ≡ false → Passed e l p (i + 1)
       pass-other s = record {
         within = omega arith;
         owned = owned-other e l i h q r.owned;
         clear = r.clear ∙ other-clear e l i h q (sym (shares-comm e z) ∙ s);
+        stands = r.stands;
       }
 
-      pub pass-clash : {next : ℕ} → shares z e ≡ true → Behind e l from (record { clash = true; own_at = own; own_count = owns; next = next })
-      pass-clash s = record {
-        clash = sym (r.clear ∙ clashed e l i h q (sym (shares-comm e z) ∙ s));
-        owned = λ t. absurd (true≢false t);
-      }
+      pub pass-clash : shares z e ≡ true → Clashes e l Shared
+      pass-clash s = (refl, r.clear ∙ clashed e l i h q (sym (shares-comm e z) ∙ s))
 
-  pub pass-end : length l ≤ i → Behind e l from (record { clash = false; own_at = own; own_count = owns; next = i })
+  pub pass-end : length l ≤ i → Finds e l p
   unfolding any
   pass-end h = record {
-    clash = sym (r.clear ∙ ap (any (clashes e)) (drop_of_length-le l h));
-    owned = λ t. subst (λ (k : List Entry). Owned e k (length l) own owns) (take_all i l h) r.owned;
+    clear = r.clear ∙ ap (any (clashes e)) (drop_of_length-le l h);
+    owned = subst (λ (k : List Entry). Owned e k (length l) p.hole p.own_count) (take_all i l h) r.owned;
+    stands = r.stands;
   }
-
--- ---- both together
-
-pub found-clash : (e : Entry) (l : List Entry) {m : Compared} → Ahead e l m → m.clash ≡ true
-    → {own owns to : ℕ} → Finds e l (record { clash = true; own_at = own; own_count = owns; to = to })
-found-clash e l a t = record { clash = sym (a.clash t); owned = λ z. absurd (true≢false z); stands = λ z. absurd (true≢false z) }
-
-module _ (e : Entry) (l : List Entry) {m : Compared} (a : Ahead e l m) (t : m.clash ≡ false) where
-  abbrev first : List Entry
-  first = others e (take m.next l)
-
-  abbrev last : List Entry
-  last = others e (drop m.next l)
-
-  all : others e l ≡ first ++ last
-  all = ap (others e) (sym (take-append-drop m.next l)) ∙ filter-append (other e) (take m.next l) (drop m.next l)
-
-  pub ahead-length : m.own_count + length first ≡ m.next
-  ahead-length = a.owned.as_many ∙ length-take-le m.next l a.within
-
-  pub found : {b : Compared} → Behind e l m.next b
-      → Finds e l (record { clash = b.clash; own_at = b.own_at; own_count = b.own_count; to = m.next - m.own_count })
-  found r =
-      let n : length first ≡ m.next - m.own_count = omega (arith, ahead-length) in record {
-        clash = r.clash ∙ sym (a.clear t);
-        owned = r.owned;
-        stands = λ z. (
-          omega (arith, ap length all, length-append first last),
-          a.stands t ∙ sym (ap (insert_at (m.next - m.own_count) e) all
-              ∙ ap₂ (λ (s u : List Entry). s ++ (e ∷ u)) (take_at first last (m.next - m.own_count) n) (drop_at first last (m.next - m.own_count) n)),
-        );
-      }

@@ -1,6 +1,6 @@
 // The base header and the bodies read. Numbers by value, strings and lists by their place in the body; `taken` is the number of bytes taken. Where `number` is not 0, the other fields are.
 ghost use Rattle.std.specs.Prelude.{◌≡◌};
-ghost use Rattle.format.specs.View.{view, seen, missed};
+ghost use Rattle.format.specs.View.{view, seen};
 ghost use Rattle.protocol.specs.Layer.{header};
 ghost use Rattle.pinf.specs.Says.{pnam, ploc};
 ghost use Rattle.finf.specs.Says.{sfra, fram};
@@ -12,21 +12,19 @@ ghost use Rattle.bridge.specs.Read.{flat_header, flat_string, flat_fixture_list,
 ghost use Rattle.bridge.specs.Read.{flat_laser_feed_frame, flat_universe_string, flat_chbk, flat_ptch, flat_sele, flat_fram, flat_ploc};
 
 use caex::{
-    EnterShow, EnterShowRead, FixtureList, FixtureListRead, FixtureRemove, FixtureRemoveRead,
-    LaserFeedControl, LaserFeedControlRead, LaserFeedFrame, LaserFeedFrameRead, LaserFeedList,
-    LaserFeedListRead,
+    EnterShow, FixtureList, FixtureRemove, LaserFeedControl, LaserFeedFrame, LaserFeedList,
 };
-use finf::{Fram, FramRead, SFra, SFraRead};
-use fptc::{Ptch, PtchRead, SPtc, SPtcRead, UPtc, UPtcRead};
-use fsel::{DeSe, DeSeRead, Sele, SeleRead};
-use header::{Header, HeaderRead};
-use pinf::{PLoc, PLocRead, PNam, PNamRead};
-use sdmx::{Capa, CapaRead, ChBk, ChBkRead, ChLs, ChLsRead, Sxus, SxusRead, UNam, UNamRead};
+use finf::{Fram, SFra};
+use fptc::{Ptch, SPtc, UPtc};
+use fsel::{DeSe, Sele};
+use header::Header;
+use pinf::{PLoc, PNam};
+use sdmx::{Capa, ChBk, ChLs, Sxus, UNam};
 use wire::CString;
 
 // A body that is one string.
 #[repr(C)]
-#[derive(Clone, Copy)]
+#[derive(Clone, Copy, Default)]
 pub struct StringBody {
     pub number: u8,
     pub taken: usize,
@@ -45,22 +43,11 @@ impl StringBody {
             len,
         }
     }
-
-    fn refused(number: u8) -> StringBody
-        ensures { result ≡ flat_string (missed number) }
-    {
-        StringBody {
-            number,
-            taken: 0,
-            start: 0,
-            len: 0,
-        }
-    }
 }
 
 // A body that is one list.
 #[repr(C)]
-#[derive(Clone, Copy)]
+#[derive(Clone, Copy, Default)]
 pub struct ListBody {
     pub number: u8,
     pub left: u16,
@@ -79,22 +66,11 @@ impl ListBody {
             at,
         }
     }
-
-    fn refused(number: u8) -> ListBody
-        ensures { result ≡ flat_list (missed number) }
-    {
-        ListBody {
-            number,
-            left: 0,
-            taken: 0,
-            at: 0,
-        }
-    }
 }
 
 // UNam with the universe's name; Sxus with the connection string.
 #[repr(C)]
-#[derive(Clone, Copy)]
+#[derive(Clone, Copy, Default)]
 pub struct UniverseStringBody {
     pub number: u8,
     pub universe_index: u8,
@@ -115,22 +91,10 @@ impl UniverseStringBody {
             string_len: string.len,
         }
     }
-
-    fn refused(number: u8) -> UniverseStringBody
-        ensures { result ≡ flat_universe_string (missed number) }
-    {
-        UniverseStringBody {
-            number,
-            universe_index: 0,
-            taken: 0,
-            string_start: 0,
-            string_len: 0,
-        }
-    }
 }
 
 #[repr(C)]
-#[derive(Clone, Copy)]
+#[derive(Clone, Copy, Default)]
 pub struct HeaderAnswer {
     pub number: u8,
     pub version_major: u8,
@@ -149,7 +113,7 @@ pub extern "C" fn citp_header_read(body: &[u8]) -> HeaderAnswer
     ensures { result ≡ flat_header (view header body.now 0) }
 {
     match Header::read_from_bytes(body) {
-        HeaderRead::Read(m, c) => HeaderAnswer {
+        Ok((m, c)) => HeaderAnswer {
             number: 0,
             version_major: m.version_major,
             version_minor: m.version_minor,
@@ -161,17 +125,9 @@ pub extern "C" fn citp_header_read(body: &[u8]) -> HeaderAnswer
             content_type: m.content_type,
             taken: c.at,
         },
-        HeaderRead::Refused(number) => HeaderAnswer {
-            number,
-            version_major: 0,
-            version_minor: 0,
-            request_index: 0,
-            message_part_count: 0,
-            message_part: 0,
-            cookie: 0,
-            message_size: 0,
-            content_type: 0,
-            taken: 0,
+        Err(r) => HeaderAnswer {
+            number: r.number(),
+            ..HeaderAnswer::default()
         },
     }
 }
@@ -181,13 +137,16 @@ pub extern "C" fn citp_enter_show_read(body: &[u8]) -> StringBody
     ensures { result ≡ flat_string (view enter_show body.now 0) }
 {
     match EnterShow::read_from_bytes(body) {
-        EnterShowRead::Read(m, c) => StringBody::of(m.name.start, m.name.len, c.at),
-        EnterShowRead::Refused(number) => StringBody::refused(number),
+        Ok((show, c)) => StringBody::of(show.name.start, show.name.len, c.at),
+        Err(r) => StringBody {
+            number: r.number(),
+            ..StringBody::default()
+        },
     }
 }
 
 #[repr(C)]
-#[derive(Clone, Copy)]
+#[derive(Clone, Copy, Default)]
 pub struct FixtureListBody {
     pub number: u8,
     pub message_type: u8,
@@ -201,22 +160,18 @@ pub extern "C" fn citp_fixture_list_read(body: &[u8]) -> FixtureListBody
     ensures { result ≡ flat_fixture_list (view fixture_list body.now 0) }
 {
     match FixtureList::read_from_bytes(body) {
-        FixtureListRead::Read(m, c) => {
-            let message_type = m.message_type;
+        Ok((m, c)) => {
             FixtureListBody {
                 number: 0,
-                message_type: message_type.code(),
+                message_type: m.message_type.code(),
                 fixtures_left: m.fixtures.left,
                 taken: c.at,
                 fixtures_at: m.fixtures.at,
             }
         }
-        FixtureListRead::Refused(number) => FixtureListBody {
-            number,
-            message_type: 0,
-            fixtures_left: 0,
-            taken: 0,
-            fixtures_at: 0,
+        Err(r) => FixtureListBody {
+            number: r.number(),
+            ..FixtureListBody::default()
         },
     }
 }
@@ -226,17 +181,16 @@ pub extern "C" fn citp_fixture_remove_read(body: &[u8]) -> ListBody
     ensures { result ≡ flat_list (view fixture_remove body.now 0) }
 {
     match FixtureRemove::read_from_bytes(body) {
-        FixtureRemoveRead::Read(m, c) => ListBody::of(
-            m.fixture_identifiers.at,
-            m.fixture_identifiers.left,
-            c.at,
-        ),
-        FixtureRemoveRead::Refused(number) => ListBody::refused(number),
+        Ok((m, c)) => ListBody::of(m.fixture_identifiers.at, m.fixture_identifiers.left, c.at),
+        Err(r) => ListBody {
+            number: r.number(),
+            ..ListBody::default()
+        },
     }
 }
 
 #[repr(C)]
-#[derive(Clone, Copy)]
+#[derive(Clone, Copy, Default)]
 pub struct LaserFeedControlBody {
     pub number: u8,
     pub feed_index: u8,
@@ -249,23 +203,21 @@ pub extern "C" fn citp_laser_feed_control_read(body: &[u8]) -> LaserFeedControlB
     ensures { result ≡ flat_laser_feed_control (view laser_feed_control body.now 0) }
 {
     match LaserFeedControl::read_from_bytes(body) {
-        LaserFeedControlRead::Read(m, c) => LaserFeedControlBody {
+        Ok((m, c)) => LaserFeedControlBody {
             number: 0,
             feed_index: m.feed_index,
             frame_rate: m.frame_rate,
             taken: c.at,
         },
-        LaserFeedControlRead::Refused(number) => LaserFeedControlBody {
-            number,
-            feed_index: 0,
-            frame_rate: 0,
-            taken: 0,
+        Err(r) => LaserFeedControlBody {
+            number: r.number(),
+            ..LaserFeedControlBody::default()
         },
     }
 }
 
 #[repr(C)]
-#[derive(Clone, Copy)]
+#[derive(Clone, Copy, Default)]
 pub struct LaserFeedListBody {
     pub number: u8,
     pub feed_names_left: u8,
@@ -279,25 +231,22 @@ pub extern "C" fn citp_laser_feed_list_read(body: &[u8]) -> LaserFeedListBody
     ensures { result ≡ flat_laser_feed_list (view laser_feed_list body.now 0) }
 {
     match LaserFeedList::read_from_bytes(body) {
-        LaserFeedListRead::Read(m, c) => LaserFeedListBody {
+        Ok((m, c)) => LaserFeedListBody {
             number: 0,
             feed_names_left: m.feed_names.left,
             source_key: m.source_key,
             taken: c.at,
             feed_names_at: m.feed_names.at,
         },
-        LaserFeedListRead::Refused(number) => LaserFeedListBody {
-            number,
-            feed_names_left: 0,
-            source_key: 0,
-            taken: 0,
-            feed_names_at: 0,
+        Err(r) => LaserFeedListBody {
+            number: r.number(),
+            ..LaserFeedListBody::default()
         },
     }
 }
 
 #[repr(C)]
-#[derive(Clone, Copy)]
+#[derive(Clone, Copy, Default)]
 pub struct LaserFeedFrameBody {
     pub number: u8,
     pub feed_index: u8,
@@ -313,7 +262,7 @@ pub extern "C" fn citp_laser_feed_frame_read(body: &[u8]) -> LaserFeedFrameBody
     ensures { result ≡ flat_laser_feed_frame (view laser_feed_frame body.now 0) }
 {
     match LaserFeedFrame::read_from_bytes(body) {
-        LaserFeedFrameRead::Read(m, c) => LaserFeedFrameBody {
+        Ok((m, c)) => LaserFeedFrameBody {
             number: 0,
             feed_index: m.feed_index,
             points_left: m.points.left,
@@ -322,14 +271,9 @@ pub extern "C" fn citp_laser_feed_frame_read(body: &[u8]) -> LaserFeedFrameBody
             taken: c.at,
             points_at: m.points.at,
         },
-        LaserFeedFrameRead::Refused(number) => LaserFeedFrameBody {
-            number,
-            feed_index: 0,
-            points_left: 0,
-            source_key: 0,
-            frame_sequence: 0,
-            taken: 0,
-            points_at: 0,
+        Err(r) => LaserFeedFrameBody {
+            number: r.number(),
+            ..LaserFeedFrameBody::default()
         },
     }
 }
@@ -339,8 +283,11 @@ pub extern "C" fn citp_capa_read(body: &[u8]) -> ListBody
     ensures { result ≡ flat_list (view capa body.now 0) }
 {
     match Capa::read_from_bytes(body) {
-        CapaRead::Read(m, c) => ListBody::of(m.capabilities.at, m.capabilities.left, c.at),
-        CapaRead::Refused(number) => ListBody::refused(number),
+        Ok((m, c)) => ListBody::of(m.capabilities.at, m.capabilities.left, c.at),
+        Err(r) => ListBody {
+            number: r.number(),
+            ..ListBody::default()
+        },
     }
 }
 
@@ -349,13 +296,16 @@ pub extern "C" fn citp_unam_read(body: &[u8]) -> UniverseStringBody
     ensures { result ≡ flat_universe_string (view unam body.now 0) }
 {
     match UNam::read_from_bytes(body) {
-        UNamRead::Read(m, c) => UniverseStringBody::of(m.universe_index, m.universe_name, c.at),
-        UNamRead::Refused(number) => UniverseStringBody::refused(number),
+        Ok((m, c)) => UniverseStringBody::of(m.universe_index, m.universe_name, c.at),
+        Err(r) => UniverseStringBody {
+            number: r.number(),
+            ..UniverseStringBody::default()
+        },
     }
 }
 
 #[repr(C)]
-#[derive(Clone, Copy)]
+#[derive(Clone, Copy, Default)]
 pub struct ChBkBody {
     pub number: u8,
     pub blind: u8,
@@ -371,7 +321,7 @@ pub extern "C" fn citp_chbk_read(body: &[u8]) -> ChBkBody
     ensures { result ≡ flat_chbk (view chbk body.now 0) }
 {
     match ChBk::read_from_bytes(body) {
-        ChBkRead::Read(m, c) => ChBkBody {
+        Ok((m, c)) => ChBkBody {
             number: 0,
             blind: m.blind,
             universe_index: m.universe_index,
@@ -380,14 +330,9 @@ pub extern "C" fn citp_chbk_read(body: &[u8]) -> ChBkBody
             channel_levels_start: m.channel_levels.start,
             channel_levels_len: m.channel_levels.len,
         },
-        ChBkRead::Refused(number) => ChBkBody {
-            number,
-            blind: 0,
-            universe_index: 0,
-            first_channel: 0,
-            taken: 0,
-            channel_levels_start: 0,
-            channel_levels_len: 0,
+        Err(r) => ChBkBody {
+            number: r.number(),
+            ..ChBkBody::default()
         },
     }
 }
@@ -397,8 +342,11 @@ pub extern "C" fn citp_chls_read(body: &[u8]) -> ListBody
     ensures { result ≡ flat_list (view chls body.now 0) }
 {
     match ChLs::read_from_bytes(body) {
-        ChLsRead::Read(m, c) => ListBody::of(m.channel_levels.at, m.channel_levels.left, c.at),
-        ChLsRead::Refused(number) => ListBody::refused(number),
+        Ok((m, c)) => ListBody::of(m.channel_levels.at, m.channel_levels.left, c.at),
+        Err(r) => ListBody {
+            number: r.number(),
+            ..ListBody::default()
+        },
     }
 }
 
@@ -407,13 +355,16 @@ pub extern "C" fn citp_sxus_read(body: &[u8]) -> UniverseStringBody
     ensures { result ≡ flat_universe_string (view sxus body.now 0) }
 {
     match Sxus::read_from_bytes(body) {
-        SxusRead::Read(m, c) => UniverseStringBody::of(m.universe_index, m.connection_string, c.at),
-        SxusRead::Refused(number) => UniverseStringBody::refused(number),
+        Ok((m, c)) => UniverseStringBody::of(m.universe_index, m.connection_string, c.at),
+        Err(r) => UniverseStringBody {
+            number: r.number(),
+            ..UniverseStringBody::default()
+        },
     }
 }
 
 #[repr(C)]
-#[derive(Clone, Copy)]
+#[derive(Clone, Copy, Default)]
 pub struct PtchBody {
     pub number: u8,
     pub universe: u8,
@@ -433,7 +384,7 @@ pub extern "C" fn citp_ptch_read(body: &[u8]) -> PtchBody
     ensures { result ≡ flat_ptch (view ptch body.now 0) }
 {
     match Ptch::read_from_bytes(body) {
-        PtchRead::Read(m, c) => PtchBody {
+        Ok((m, c)) => PtchBody {
             number: 0,
             universe: m.universe,
             reserved: m.reserved,
@@ -446,18 +397,9 @@ pub extern "C" fn citp_ptch_read(body: &[u8]) -> PtchBody
             fixture_name_start: m.fixture_name.start,
             fixture_name_len: m.fixture_name.len,
         },
-        PtchRead::Refused(number) => PtchBody {
-            number,
-            universe: 0,
-            reserved: 0,
-            fixture_identifier: 0,
-            channel: 0,
-            channel_count: 0,
-            taken: 0,
-            fixture_make_start: 0,
-            fixture_make_len: 0,
-            fixture_name_start: 0,
-            fixture_name_len: 0,
+        Err(r) => PtchBody {
+            number: r.number(),
+            ..PtchBody::default()
         },
     }
 }
@@ -467,12 +409,11 @@ pub extern "C" fn citp_uptc_read(body: &[u8]) -> ListBody
     ensures { result ≡ flat_list (view uptc body.now 0) }
 {
     match UPtc::read_from_bytes(body) {
-        UPtcRead::Read(m, c) => ListBody::of(
-            m.fixture_identifiers.at,
-            m.fixture_identifiers.left,
-            c.at,
-        ),
-        UPtcRead::Refused(number) => ListBody::refused(number),
+        Ok((m, c)) => ListBody::of(m.fixture_identifiers.at, m.fixture_identifiers.left, c.at),
+        Err(r) => ListBody {
+            number: r.number(),
+            ..ListBody::default()
+        },
     }
 }
 
@@ -481,17 +422,16 @@ pub extern "C" fn citp_sptc_read(body: &[u8]) -> ListBody
     ensures { result ≡ flat_list (view sptc body.now 0) }
 {
     match SPtc::read_from_bytes(body) {
-        SPtcRead::Read(m, c) => ListBody::of(
-            m.fixture_identifiers.at,
-            m.fixture_identifiers.left,
-            c.at,
-        ),
-        SPtcRead::Refused(number) => ListBody::refused(number),
+        Ok((m, c)) => ListBody::of(m.fixture_identifiers.at, m.fixture_identifiers.left, c.at),
+        Err(r) => ListBody {
+            number: r.number(),
+            ..ListBody::default()
+        },
     }
 }
 
 #[repr(C)]
-#[derive(Clone, Copy)]
+#[derive(Clone, Copy, Default)]
 pub struct SeleBody {
     pub number: u8,
     pub complete: u8,
@@ -506,7 +446,7 @@ pub extern "C" fn citp_sele_read(body: &[u8]) -> SeleBody
     ensures { result ≡ flat_sele (view sele body.now 0) }
 {
     match Sele::read_from_bytes(body) {
-        SeleRead::Read(m, c) => SeleBody {
+        Ok((m, c)) => SeleBody {
             number: 0,
             complete: m.complete,
             reserved: m.reserved,
@@ -514,13 +454,9 @@ pub extern "C" fn citp_sele_read(body: &[u8]) -> SeleBody
             taken: c.at,
             fixture_identifiers_at: m.fixture_identifiers.at,
         },
-        SeleRead::Refused(number) => SeleBody {
-            number,
-            complete: 0,
-            reserved: 0,
-            fixture_identifiers_left: 0,
-            taken: 0,
-            fixture_identifiers_at: 0,
+        Err(r) => SeleBody {
+            number: r.number(),
+            ..SeleBody::default()
         },
     }
 }
@@ -530,12 +466,11 @@ pub extern "C" fn citp_dese_read(body: &[u8]) -> ListBody
     ensures { result ≡ flat_list (view dese body.now 0) }
 {
     match DeSe::read_from_bytes(body) {
-        DeSeRead::Read(m, c) => ListBody::of(
-            m.fixture_identifiers.at,
-            m.fixture_identifiers.left,
-            c.at,
-        ),
-        DeSeRead::Refused(number) => ListBody::refused(number),
+        Ok((m, c)) => ListBody::of(m.fixture_identifiers.at, m.fixture_identifiers.left, c.at),
+        Err(r) => ListBody {
+            number: r.number(),
+            ..ListBody::default()
+        },
     }
 }
 
@@ -544,17 +479,16 @@ pub extern "C" fn citp_sfra_read(body: &[u8]) -> ListBody
     ensures { result ≡ flat_list (view sfra body.now 0) }
 {
     match SFra::read_from_bytes(body) {
-        SFraRead::Read(m, c) => ListBody::of(
-            m.fixture_identifiers.at,
-            m.fixture_identifiers.left,
-            c.at,
-        ),
-        SFraRead::Refused(number) => ListBody::refused(number),
+        Ok((m, c)) => ListBody::of(m.fixture_identifiers.at, m.fixture_identifiers.left, c.at),
+        Err(r) => ListBody {
+            number: r.number(),
+            ..ListBody::default()
+        },
     }
 }
 
 #[repr(C)]
-#[derive(Clone, Copy)]
+#[derive(Clone, Copy, Default)]
 pub struct FramBody {
     pub number: u8,
     pub frame_filter_count: u8,
@@ -570,7 +504,7 @@ pub extern "C" fn citp_fram_read(body: &[u8]) -> FramBody
     ensures { result ≡ flat_fram (view fram body.now 0) }
 {
     match Fram::read_from_bytes(body) {
-        FramRead::Read(m, c) => FramBody {
+        Ok((m, c)) => FramBody {
             number: 0,
             frame_filter_count: m.frame_filter_count,
             frame_gobo_count: m.frame_gobo_count,
@@ -579,14 +513,9 @@ pub extern "C" fn citp_fram_read(body: &[u8]) -> FramBody
             frame_names_start: m.frame_names.start,
             frame_names_len: m.frame_names.len,
         },
-        FramRead::Refused(number) => FramBody {
-            number,
-            frame_filter_count: 0,
-            frame_gobo_count: 0,
-            fixture_identifier: 0,
-            taken: 0,
-            frame_names_start: 0,
-            frame_names_len: 0,
+        Err(r) => FramBody {
+            number: r.number(),
+            ..FramBody::default()
         },
     }
 }
@@ -596,13 +525,16 @@ pub extern "C" fn citp_pnam_read(body: &[u8]) -> StringBody
     ensures { result ≡ flat_string (view pnam body.now 0) }
 {
     match PNam::read_from_bytes(body) {
-        PNamRead::Read(m, c) => StringBody::of(m.name.start, m.name.len, c.at),
-        PNamRead::Refused(number) => StringBody::refused(number),
+        Ok((m, c)) => StringBody::of(m.name.start, m.name.len, c.at),
+        Err(r) => StringBody {
+            number: r.number(),
+            ..StringBody::default()
+        },
     }
 }
 
 #[repr(C)]
-#[derive(Clone, Copy)]
+#[derive(Clone, Copy, Default)]
 pub struct PLocBody {
     pub number: u8,
     pub listening_tcp_port: u16,
@@ -620,7 +552,7 @@ pub extern "C" fn citp_ploc_read(body: &[u8]) -> PLocBody
     ensures { result ≡ flat_ploc (view ploc body.now 0) }
 {
     match PLoc::read_from_bytes(body) {
-        PLocRead::Read(m, c) => PLocBody {
+        Ok((m, c)) => PLocBody {
             number: 0,
             listening_tcp_port: m.listening_tcp_port,
             taken: c.at,
@@ -631,16 +563,9 @@ pub extern "C" fn citp_ploc_read(body: &[u8]) -> PLocBody
             state_start: m.state.start,
             state_len: m.state.len,
         },
-        PLocRead::Refused(number) => PLocBody {
-            number,
-            listening_tcp_port: 0,
-            taken: 0,
-            kind_start: 0,
-            kind_len: 0,
-            name_start: 0,
-            name_len: 0,
-            state_start: 0,
-            state_len: 0,
+        Err(r) => PLocBody {
+            number: r.number(),
+            ..PLocBody::default()
         },
     }
 }

@@ -11,6 +11,5 @@ pub extern "C" fn citp_walk_step(stream: &[u8], at: usize) -> StepAnswer
     ensures { result ≡ flat_step (step_at stream.now at) }
 {
     let c = Cursor { at };
-    let step = c.step(stream);
-    step_answer(step)
+    step_answer(at, c.step(stream))
 }

@@ -1,14 +1,15 @@
 // The functions of include/citp.h for the patch book: a count, and the words lent with an entry in each. Any values are a book.
 #![tactic(auto)]
 
-ghost use Rattle.std.specs.Prelude.{◌≡◌, length};
+ghost use Rattle.std.specs.Prelude.{◌≡◌, ℕ, List, length};
 ghost use Rattle.patching.specs.Book.{ptch, uptc, change, answer, held, taken_in, free_in, entry_at};
 ghost use Rattle.channels.specs.Free.{free_of};
 ghost use Rattle.book.specs.Listed.{listed_of};
+ghost use Rattle.book.specs.Booked.{booked};
 ghost use Rattle.bridge_book.specs.Answer.{flat_entry, flat_free};
 
-use book::{Book, Listed};
-use channels::FirstFree;
+use book::Book;
+use refusal::Refusal;
 
 // The number of a message, 0 where it is taken, and the count after it.
 #[repr(C)]
@@ -18,6 +19,22 @@ pub struct BookAnswer {
     pub count: usize,
 }
 
+// What is told of a message, by the count before it.
+fn told(count: usize, answer: Result<Book, Refusal>) -> BookAnswer
+    ensures { (ws : List ℕ) → (result.number, result.count, ws) ≡ booked count answer ws }
+{
+    match answer {
+        Ok(book) => BookAnswer {
+            number: 0,
+            count: book.count,
+        },
+        Err(refusal) => BookAnswer {
+            number: refusal.number(),
+            count,
+        },
+    }
+}
+
 // The body of a Ptch.
 #[unsafe(no_mangle)]
 pub extern "C" fn citp_book_patch(count: usize, entries: &mut [u64], body: &[u8]) -> BookAnswer
@@ -25,11 +42,7 @@ pub extern "C" fn citp_book_patch(count: usize, entries: &mut [u64], body: &[u8]
         ≡ answer (change (ptch body.now)) count entries.old }
 {
     let book = Book { count };
-    let patched = book.patch(entries, body);
-    BookAnswer {
-        number: patched.number,
-        count: patched.book.count,
-    }
+    told(count, book.patch(entries, body))
 }
 
 // The body of a UPtc.
@@ -39,11 +52,7 @@ pub extern "C" fn citp_book_unpatch(count: usize, entries: &mut [u64], body: &[u
         ≡ answer (change (uptc body.now)) count entries.old }
 {
     let book = Book { count };
-    let unpatched = book.unpatch(entries, body);
-    BookAnswer {
-        number: unpatched.number,
-        count: unpatched.book.count,
-    }
+    told(count, book.unpatch(entries, body))
 }
 
 // How many entries it holds.
@@ -73,14 +82,14 @@ pub extern "C" fn citp_book_entry(count: usize, entries: &[u64], k: usize) -> En
 {
     let book = Book { count };
     match book.entry(entries, k) {
-        Listed::Item(e) => EntryAnswer {
+        Some(e) => EntryAnswer {
             given: 1,
             fixture_identifier: e.fixture_identifier,
             universe: e.universe,
             channel: e.channel,
             channel_count: e.channel_count,
         },
-        Listed::Done => EntryAnswer {
+        None => EntryAnswer {
             given: 0,
             fixture_identifier: 0,
             universe: 0,
@@ -105,8 +114,5 @@ pub extern "C" fn citp_book_first_free(count: usize, entries: &[u64], universe: 
     ensures { result ≡ flat_free (free_of (free_in universe (held count entries.now))) }
 {
     let book = Book { count };
-    match book.first_free(entries, universe) {
-        FirstFree::Channel(channel) => channel,
-        FirstFree::NoneFree => 512,
-    }
+    book.first_free(entries, universe).unwrap_or(512)
 }

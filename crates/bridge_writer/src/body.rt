@@ -3,32 +3,32 @@ ghost use Rattle.std.specs.Prelude.{◌≡◌, map};
 ghost use Rattle.format.specs.Passed.{in_range};
 ghost use Rattle.protocol.specs.Kind.{identifier_format, fixture_data_format, fixture_head, feed_name_format, laser_point_format};
 ghost use Rattle.protocol.specs.Layer.{header};
-ghost use Rattle.put.specs.Put.{put_at};
+ghost use Rattle.format.specs.Copy.{denied};
+ghost use Rattle.put.specs.Put.{put_at, put_head};
 ghost use Rattle.caex.specs.Write.{fixture_list_head, laser_feed_list_head, laser_feed_frame_head};
-ghost use Rattle.put.specs.Put.{put_head};
 ghost use Rattle.plain.specs.Numbers.{value_of};
+ghost use Rattle.plain.specs.Written.{flat_written};
 ghost use Rattle.bridge_writer.specs.Write.{by_code};
 ghost use Rattle.pinf.specs.Says.{pnam, ploc};
 ghost use Rattle.finf.specs.Says.{sfra, fram};
 ghost use Rattle.fsel.specs.Says.{sele, dese};
 ghost use Rattle.fptc.specs.Says.{ptch, uptc, sptc};
-ghost use Rattle.sdmx.specs.Says.{capa, unam, chbk, chls, sxus};
-ghost use Rattle.chls.specs.Levels.{level_value};
+ghost use Rattle.sdmx.specs.Says.{capa, unam, chbk, chls, sxus, level_value};
 ghost use Rattle.caex.specs.Says.{enter_show, fixture_remove, laser_feed_control};
 
 use caex::{
-    EnterShow, FixtureList, FixtureListMessageType, FixtureListMessageTypeRead, FixtureRemove,
-    LaserFeedControl, LaserFeedFrame, LaserFeedList, LaserPoint,
+    EnterShow, FixtureList, FixtureListMessageType, FixtureRemove, LaserFeedControl,
+    LaserFeedFrame, LaserFeedList, LaserPoint,
 };
 use finf::{Fram, SFra};
-use fixture::{Fixture, Identifier, IdentifierType, IdentifierTypeRead};
+use fixture::{Fixture, Identifier, IdentifierType};
 use fptc::{Ptch, SPtc, UPtc};
 use fsel::{DeSe, Sele};
 use header::Header;
 use pinf::{PLoc, PNam};
 use plain::numbers::{FixtureNumbers, fixture_data};
-use put::Put;
-use sdmx::{Capa, ChBk, ChannelLevel, Sxus, UNam};
+use plain::written::Put;
+use sdmx::{Capa, ChBk, ChLs, ChannelLevel, Sxus, UNam};
 
 #[unsafe(no_mangle)]
 pub extern "C" fn citp_header_write(
@@ -43,7 +43,10 @@ pub extern "C" fn citp_header_write(
     message_part: u16,
     content_type: u32,
 ) -> Put
-    ensures { (result, out.new) ≡ put_at header (cookie, (version_major, (version_minor, (request_index, (message_size, (message_part_count, (message_part, content_type))))))) at out.old }
+    ensures { (result, out.new)
+        ≡ flat_written at (put_at header
+        (cookie, (version_major, (version_minor, (request_index, (message_size, (message_part_count, (message_part, content_type)))))))
+        at out.old) }
 {
     let h = Header {
         cookie,
@@ -55,14 +58,14 @@ pub extern "C" fn citp_header_write(
         message_part,
         content_type,
     };
-    h.write_to_bytes(out, at)
+    Put::of(at, h.write_to_bytes(out, at))
 }
 
 #[unsafe(no_mangle)]
 pub extern "C" fn citp_enter_show_write(out: &mut [u8], at: usize, name: &[u16]) -> Put
-    ensures { (result, out.new) ≡ put_at enter_show name.now at out.old }
+    ensures { (result, out.new) ≡ flat_written at (put_at enter_show name.now at out.old) }
 {
-    EnterShow::write_to_bytes(out, at, name)
+    Put::of(at, EnterShow::write_to_bytes(out, at, name))
 }
 
 #[unsafe(no_mangle)]
@@ -71,9 +74,12 @@ pub extern "C" fn citp_fixture_remove_write(
     at: usize,
     fixture_identifiers: &[u32],
 ) -> Put
-    ensures { (result, out.new) ≡ put_at fixture_remove fixture_identifiers.now at out.old }
+    ensures { (result, out.new) ≡ flat_written at (put_at fixture_remove fixture_identifiers.now at out.old) }
 {
-    FixtureRemove::write_to_bytes(out, at, fixture_identifiers)
+    Put::of(
+        at,
+        FixtureRemove::write_to_bytes(out, at, fixture_identifiers),
+    )
 }
 
 #[unsafe(no_mangle)]
@@ -83,16 +89,19 @@ pub extern "C" fn citp_laser_feed_control_write(
     feed_index: u8,
     frame_rate: u8,
 ) -> Put
-    ensures { (result, out.new) ≡ put_at laser_feed_control (feed_index, frame_rate) at out.old }
+    ensures { (result, out.new) ≡ flat_written at (put_at laser_feed_control (feed_index, frame_rate) at out.old) }
 {
-    LaserFeedControl::write_to_bytes(out, at, feed_index, frame_rate)
+    Put::of(
+        at,
+        LaserFeedControl::write_to_bytes(out, at, feed_index, frame_rate),
+    )
 }
 
 #[unsafe(no_mangle)]
 pub extern "C" fn citp_capa_write(out: &mut [u8], at: usize, capabilities: &[u16]) -> Put
-    ensures { (result, out.new) ≡ put_at capa capabilities.now at out.old }
+    ensures { (result, out.new) ≡ flat_written at (put_at capa capabilities.now at out.old) }
 {
-    Capa::write_to_bytes(out, at, capabilities)
+    Put::of(at, Capa::write_to_bytes(out, at, capabilities))
 }
 
 #[unsafe(no_mangle)]
@@ -102,9 +111,12 @@ pub extern "C" fn citp_unam_write(
     universe_index: u8,
     universe_name: &[u8],
 ) -> Put
-    ensures { (result, out.new) ≡ put_at unam (universe_index, universe_name.now) at out.old }
+    ensures { (result, out.new) ≡ flat_written at (put_at unam (universe_index, universe_name.now) at out.old) }
 {
-    UNam::write_to_bytes(out, at, universe_index, universe_name)
+    Put::of(
+        at,
+        UNam::write_to_bytes(out, at, universe_index, universe_name),
+    )
 }
 
 #[unsafe(no_mangle)]
@@ -116,23 +128,26 @@ pub extern "C" fn citp_chbk_write(
     first_channel: u16,
     channel_levels: &[u8],
 ) -> Put
-    ensures { (result, out.new) ≡ put_at chbk (blind, (universe_index, (first_channel, channel_levels.now))) at out.old }
+    ensures { (result, out.new) ≡ flat_written at (put_at chbk (blind, (universe_index, (first_channel, channel_levels.now))) at out.old) }
 {
-    ChBk::write_to_bytes(
-        out,
+    Put::of(
         at,
-        blind,
-        universe_index,
-        first_channel,
-        channel_levels,
+        ChBk::write_to_bytes(
+            out,
+            at,
+            blind,
+            universe_index,
+            first_channel,
+            channel_levels,
+        ),
     )
 }
 
 #[unsafe(no_mangle)]
 pub extern "C" fn citp_chls_write(out: &mut [u8], at: usize, channel_levels: &[ChannelLevel]) -> Put
-    ensures { (result, out.new) ≡ put_at chls (map level_value channel_levels.now) at out.old }
+    ensures { (result, out.new) ≡ flat_written at (put_at chls (map level_value channel_levels.now) at out.old) }
 {
-    chls::write_to_bytes(out, at, channel_levels)
+    Put::of(at, ChLs::write_to_bytes(out, at, channel_levels))
 }
 
 #[unsafe(no_mangle)]
@@ -142,9 +157,12 @@ pub extern "C" fn citp_sxus_write(
     universe_index: u8,
     connection_string: &[u8],
 ) -> Put
-    ensures { (result, out.new) ≡ put_at sxus (universe_index, connection_string.now) at out.old }
+    ensures { (result, out.new) ≡ flat_written at (put_at sxus (universe_index, connection_string.now) at out.old) }
 {
-    Sxus::write_to_bytes(out, at, universe_index, connection_string)
+    Put::of(
+        at,
+        Sxus::write_to_bytes(out, at, universe_index, connection_string),
+    )
 }
 
 #[unsafe(no_mangle)]
@@ -159,33 +177,38 @@ pub extern "C" fn citp_ptch_write(
     fixture_make: &[u8],
     fixture_name: &[u8],
 ) -> Put
-    ensures { (result, out.new) ≡ put_at ptch (fixture_identifier, (universe, (reserved, (channel, (channel_count, (fixture_make.now, fixture_name.now)))))) at out.old }
+    ensures { (result, out.new)
+        ≡ flat_written at (put_at ptch
+        (fixture_identifier, (universe, (reserved, (channel, (channel_count, (fixture_make.now, fixture_name.now)))))) at out.old) }
 {
-    Ptch::write_to_bytes(
-        out,
+    Put::of(
         at,
-        fixture_identifier,
-        universe,
-        reserved,
-        channel,
-        channel_count,
-        fixture_make,
-        fixture_name,
+        Ptch::write_to_bytes(
+            out,
+            at,
+            fixture_identifier,
+            universe,
+            reserved,
+            channel,
+            channel_count,
+            fixture_make,
+            fixture_name,
+        ),
     )
 }
 
 #[unsafe(no_mangle)]
 pub extern "C" fn citp_uptc_write(out: &mut [u8], at: usize, fixture_identifiers: &[u16]) -> Put
-    ensures { (result, out.new) ≡ put_at uptc fixture_identifiers.now at out.old }
+    ensures { (result, out.new) ≡ flat_written at (put_at uptc fixture_identifiers.now at out.old) }
 {
-    UPtc::write_to_bytes(out, at, fixture_identifiers)
+    Put::of(at, UPtc::write_to_bytes(out, at, fixture_identifiers))
 }
 
 #[unsafe(no_mangle)]
 pub extern "C" fn citp_sptc_write(out: &mut [u8], at: usize, fixture_identifiers: &[u16]) -> Put
-    ensures { (result, out.new) ≡ put_at sptc fixture_identifiers.now at out.old }
+    ensures { (result, out.new) ≡ flat_written at (put_at sptc fixture_identifiers.now at out.old) }
 {
-    SPtc::write_to_bytes(out, at, fixture_identifiers)
+    Put::of(at, SPtc::write_to_bytes(out, at, fixture_identifiers))
 }
 
 #[unsafe(no_mangle)]
@@ -196,23 +219,26 @@ pub extern "C" fn citp_sele_write(
     reserved: u8,
     fixture_identifiers: &[u16],
 ) -> Put
-    ensures { (result, out.new) ≡ put_at sele (complete, (reserved, fixture_identifiers.now)) at out.old }
+    ensures { (result, out.new) ≡ flat_written at (put_at sele (complete, (reserved, fixture_identifiers.now)) at out.old) }
 {
-    Sele::write_to_bytes(out, at, complete, reserved, fixture_identifiers)
+    Put::of(
+        at,
+        Sele::write_to_bytes(out, at, complete, reserved, fixture_identifiers),
+    )
 }
 
 #[unsafe(no_mangle)]
 pub extern "C" fn citp_dese_write(out: &mut [u8], at: usize, fixture_identifiers: &[u16]) -> Put
-    ensures { (result, out.new) ≡ put_at dese fixture_identifiers.now at out.old }
+    ensures { (result, out.new) ≡ flat_written at (put_at dese fixture_identifiers.now at out.old) }
 {
-    DeSe::write_to_bytes(out, at, fixture_identifiers)
+    Put::of(at, DeSe::write_to_bytes(out, at, fixture_identifiers))
 }
 
 #[unsafe(no_mangle)]
 pub extern "C" fn citp_sfra_write(out: &mut [u8], at: usize, fixture_identifiers: &[u16]) -> Put
-    ensures { (result, out.new) ≡ put_at sfra fixture_identifiers.now at out.old }
+    ensures { (result, out.new) ≡ flat_written at (put_at sfra fixture_identifiers.now at out.old) }
 {
-    SFra::write_to_bytes(out, at, fixture_identifiers)
+    Put::of(at, SFra::write_to_bytes(out, at, fixture_identifiers))
 }
 
 #[unsafe(no_mangle)]
@@ -224,23 +250,27 @@ pub extern "C" fn citp_fram_write(
     frame_gobo_count: u8,
     frame_names: &[u8],
 ) -> Put
-    ensures { (result, out.new) ≡ put_at fram (fixture_identifier, (frame_filter_count, (frame_gobo_count, frame_names.now))) at out.old }
+    ensures { (result, out.new)
+        ≡ flat_written at (put_at fram (fixture_identifier, (frame_filter_count, (frame_gobo_count, frame_names.now))) at out.old) }
 {
-    Fram::write_to_bytes(
-        out,
+    Put::of(
         at,
-        fixture_identifier,
-        frame_filter_count,
-        frame_gobo_count,
-        frame_names,
+        Fram::write_to_bytes(
+            out,
+            at,
+            fixture_identifier,
+            frame_filter_count,
+            frame_gobo_count,
+            frame_names,
+        ),
     )
 }
 
 #[unsafe(no_mangle)]
 pub extern "C" fn citp_pnam_write(out: &mut [u8], at: usize, name: &[u8]) -> Put
-    ensures { (result, out.new) ≡ put_at pnam name.now at out.old }
+    ensures { (result, out.new) ≡ flat_written at (put_at pnam name.now at out.old) }
 {
-    PNam::write_to_bytes(out, at, name)
+    Put::of(at, PNam::write_to_bytes(out, at, name))
 }
 
 #[unsafe(no_mangle)]
@@ -252,9 +282,12 @@ pub extern "C" fn citp_ploc_write(
     name: &[u8],
     state: &[u8],
 ) -> Put
-    ensures { (result, out.new) ≡ put_at ploc (listening_tcp_port, (kind.now, (name.now, state.now))) at out.old }
+    ensures { (result, out.new) ≡ flat_written at (put_at ploc (listening_tcp_port, (kind.now, (name.now, state.now))) at out.old) }
 {
-    PLoc::write_to_bytes(out, at, listening_tcp_port, kind, name, state)
+    Put::of(
+        at,
+        PLoc::write_to_bytes(out, at, listening_tcp_port, kind, name, state),
+    )
 }
 
 // ---- parts of lists
@@ -266,12 +299,13 @@ pub extern "C" fn citp_fixture_list_write_head(
     message_type: u8,
     fixture_count: usize,
 ) -> Put
-    ensures { (result, out.new) ≡ by_code (λ t. put_head fixture_list_head t 2 fixture_count at out.old) (λ n. (record { number = n; at = at }, out.old)) (in_range 3 9 message_type) }
+    ensures { (result, out.new) ≡ flat_written at (by_code
+        (λ t. put_head fixture_list_head t 2 fixture_count at out.old) (λ n. (denied n, out.old)) (in_range 3 9 message_type)) }
 {
-    let FixtureListMessageTypeRead::Read(t) = FixtureListMessageType::from_u8(message_type) else {
-        return Put { number: 9, at };
-    };
-    FixtureList::write_head(out, at, t, fixture_count)
+    match FixtureListMessageType::try_from(message_type) {
+        Ok(t) => Put::of(at, FixtureList::write_head(out, at, t, fixture_count)),
+        Err(refusal) => Put::of(at, Err(refusal)),
+    }
 }
 
 #[unsafe(no_mangle)]
@@ -286,18 +320,24 @@ pub extern "C" fn citp_fixture_write_head(
     is_dimmer: u8,
     identifier_count: usize,
 ) -> Put
-    ensures { (result, out.new) ≡ put_head fixture_head (fixture_identifier, (manufacturer_name.now, (fixture_name.now, (mode_name.now, (channel_count, is_dimmer))))) 1 identifier_count at out.old }
+    ensures { (result, out.new)
+        ≡ flat_written at (put_head fixture_head
+        (fixture_identifier, (manufacturer_name.now, (fixture_name.now, (mode_name.now, (channel_count, is_dimmer)))))
+        1 identifier_count at out.old) }
 {
-    Fixture::write_head(
-        out,
+    Put::of(
         at,
-        fixture_identifier,
-        manufacturer_name,
-        fixture_name,
-        mode_name,
-        channel_count,
-        is_dimmer,
-        identifier_count,
+        Fixture::write_head(
+            out,
+            at,
+            fixture_identifier,
+            manufacturer_name,
+            fixture_name,
+            mode_name,
+            channel_count,
+            is_dimmer,
+            identifier_count,
+        ),
     )
 }
 
@@ -308,12 +348,13 @@ pub extern "C" fn citp_identifier_write(
     identifier_type: u8,
     data: &[u8],
 ) -> Put
-    ensures { (result, out.new) ≡ by_code (λ t. put_at identifier_format (t, «data».now) at out.old) (λ n. (record { number = n; at = at }, out.old)) (in_range 6 10 identifier_type) }
+    ensures { (result, out.new) ≡ flat_written at (by_code
+        (λ t. put_at identifier_format (t, «data».now) at out.old) (λ n. (denied n, out.old)) (in_range 6 10 identifier_type)) }
 {
-    let IdentifierTypeRead::Read(t) = IdentifierType::from_u8(identifier_type) else {
-        return Put { number: 10, at };
-    };
-    Identifier::write_to_bytes(out, at, t, data)
+    match IdentifierType::try_from(identifier_type) {
+        Ok(t) => Put::of(at, Identifier::write_to_bytes(out, at, t, data)),
+        Err(refusal) => Put::of(at, Err(refusal)),
+    }
 }
 
 #[unsafe(no_mangle)]
@@ -325,10 +366,10 @@ pub extern "C" fn citp_fixture_data_write(
     circuit: &[u16],
     note: &[u16],
 ) -> Put
-    ensures { (result, out.new) ≡ put_at fixture_data_format (value_of «data» unit.now circuit.now note.now) at out.old }
+    ensures { (result, out.new) ≡ flat_written at (put_at fixture_data_format (value_of «data» unit.now circuit.now note.now) at out.old) }
 {
     let x = fixture_data(data);
-    x.write_to_bytes(out, at, unit, circuit, note)
+    Put::of(at, x.write_to_bytes(out, at, unit, circuit, note))
 }
 
 #[unsafe(no_mangle)]
@@ -338,9 +379,12 @@ pub extern "C" fn citp_laser_feed_list_write_head(
     source_key: u32,
     feed_count: usize,
 ) -> Put
-    ensures { (result, out.new) ≡ put_head laser_feed_list_head source_key 1 feed_count at out.old }
+    ensures { (result, out.new) ≡ flat_written at (put_head laser_feed_list_head source_key 1 feed_count at out.old) }
 {
-    LaserFeedList::write_head(out, at, source_key, feed_count)
+    Put::of(
+        at,
+        LaserFeedList::write_head(out, at, source_key, feed_count),
+    )
 }
 
 #[unsafe(no_mangle)]
@@ -349,9 +393,9 @@ pub extern "C" fn citp_laser_feed_list_write_name(
     at: usize,
     feed_name: &[u16],
 ) -> Put
-    ensures { (result, out.new) ≡ put_at feed_name_format feed_name.now at out.old }
+    ensures { (result, out.new) ≡ flat_written at (put_at feed_name_format feed_name.now at out.old) }
 {
-    LaserFeedList::write_name(out, at, feed_name)
+    Put::of(at, LaserFeedList::write_name(out, at, feed_name))
 }
 
 #[unsafe(no_mangle)]
@@ -363,9 +407,13 @@ pub extern "C" fn citp_laser_feed_frame_write_head(
     frame_sequence: u32,
     point_count: usize,
 ) -> Put
-    ensures { (result, out.new) ≡ put_head laser_feed_frame_head (source_key, (feed_index, frame_sequence)) 2 point_count at out.old }
+    ensures { (result, out.new)
+        ≡ flat_written at (put_head laser_feed_frame_head (source_key, (feed_index, frame_sequence)) 2 point_count at out.old) }
 {
-    LaserFeedFrame::write_head(out, at, source_key, feed_index, frame_sequence, point_count)
+    Put::of(
+        at,
+        LaserFeedFrame::write_head(out, at, source_key, feed_index, frame_sequence, point_count),
+    )
 }
 
 #[unsafe(no_mangle)]
@@ -377,7 +425,8 @@ pub extern "C" fn citp_laser_point_write(
     xy_high_nibbles: u8,
     color: u16,
 ) -> Put
-    ensures { (result, out.new) ≡ put_at laser_point_format (x_low_byte, (y_low_byte, (xy_high_nibbles, color))) at out.old }
+    ensures { (result, out.new)
+        ≡ flat_written at (put_at laser_point_format (x_low_byte, (y_low_byte, (xy_high_nibbles, color))) at out.old) }
 {
     let point = LaserPoint {
         x_low_byte,
@@ -385,5 +434,5 @@ pub extern "C" fn citp_laser_point_write(
         xy_high_nibbles,
         color,
     };
-    point.write_to_bytes(out, at)
+    Put::of(at, point.write_to_bytes(out, at))
 }

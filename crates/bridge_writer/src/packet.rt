@@ -3,16 +3,18 @@ ghost use Rattle.std.specs.Prelude.{◌≡◌, map};
 ghost use Rattle.format.specs.Passed.{in_range};
 ghost use Rattle.protocol.specs.Kind as kinds;
 ghost use Rattle.writing.specs.Call as part;
-ghost use Rattle.writing.specs.Call.{opens, give, closes, body, laser_feed_list, laser_feed_frame, laser_point, fixture_list, fixture, identifier, fixture_data};
-ghost use Rattle.chls.specs.Levels.{level_value};
+ghost use Rattle.writing.specs.Call.{opens, give, closes, body, laser_feed_list, laser_feed_frame, laser_point};
+ghost use Rattle.writing.specs.Call.{fixture_list, fixture, identifier, fixture_data};
+ghost use Rattle.sdmx.specs.Says.{level_value};
 ghost use Rattle.bridge_writer.specs.Write.{by_code};
 ghost use Rattle.plain.specs.Numbers.{value_of};
 ghost use Rattle.plain.specs.State.{kind_at, by_kind, refused_with, called};
 
-use caex::{FixtureListMessageType, FixtureListMessageTypeRead, LaserPoint};
-use fixture::{IdentifierType, IdentifierTypeRead};
+use caex::{FixtureListMessageType, LaserPoint};
+use fixture::IdentifierType;
 use plain::numbers::{FixtureNumbers, fixture_data};
-use plain::state::{KindFound, WriterAnswer, WriterState, kind_of};
+use plain::state::{WriterAnswer, WriterState, kind_of};
+use refusal::Refusal;
 use sdmx::ChannelLevel;
 
 // ---- open and close
@@ -38,21 +40,20 @@ pub extern "C" fn citp_writer_open(
     request_index: u16,
     content_hint: u32,
 ) -> WriterAnswer
-    ensures { (result, out.new) ≡ by_kind (λ k. called (opens k request_index content_hint) w out.old) (refused_with w 14, out.old) (kind_at kind) }
+    ensures { (result, out.new) ≡ by_kind
+        (λ k. called (opens k request_index content_hint) w out.old) (refused_with w 14, out.old) (kind_at kind) }
 {
-    let KindFound::Known(k) = kind_of(kind) else {
-        return w.refused(14);
+    let Some(k) = kind_of(kind) else {
+        return w.refused(Refusal::OutOfTurn);
     };
-    let r = w.state().open(out, k, request_index, content_hint);
-    w.answer(r)
+    w.answer(w.state().open(out, k, request_index, content_hint))
 }
 
 #[unsafe(no_mangle)]
 pub extern "C" fn citp_writer_close(w: WriterState, out: &mut [u8]) -> WriterAnswer
     ensures { (result, out.new) ≡ called closes w out.old }
 {
-    let r = w.state().close(out);
-    w.answer(r)
+    w.answer(w.state().close(out))
 }
 
 // ---- flat bodies
@@ -65,8 +66,7 @@ pub extern "C" fn citp_writer_enter_show(
 ) -> WriterAnswer
     ensures { (result, out.new) ≡ called (give (body kinds.EnterShow name.now)) w out.old }
 {
-    let r = w.state().enter_show(out, name);
-    w.answer(r)
+    w.answer(w.state().enter_show(out, name))
 }
 
 #[unsafe(no_mangle)]
@@ -77,8 +77,7 @@ pub extern "C" fn citp_writer_fixture_remove(
 ) -> WriterAnswer
     ensures { (result, out.new) ≡ called (give (body kinds.FixtureRemove fixture_identifiers.now)) w out.old }
 {
-    let r = w.state().fixture_remove(out, fixture_identifiers);
-    w.answer(r)
+    w.answer(w.state().fixture_remove(out, fixture_identifiers))
 }
 
 #[unsafe(no_mangle)]
@@ -90,8 +89,7 @@ pub extern "C" fn citp_writer_laser_feed_control(
 ) -> WriterAnswer
     ensures { (result, out.new) ≡ called (give (body kinds.LaserFeedControl (feed_index, frame_rate))) w out.old }
 {
-    let r = w.state().laser_feed_control(out, feed_index, frame_rate);
-    w.answer(r)
+    w.answer(w.state().laser_feed_control(out, feed_index, frame_rate))
 }
 
 #[unsafe(no_mangle)]
@@ -102,8 +100,7 @@ pub extern "C" fn citp_writer_capa(
 ) -> WriterAnswer
     ensures { (result, out.new) ≡ called (give (body kinds.Capa capabilities.now)) w out.old }
 {
-    let r = w.state().capa(out, capabilities);
-    w.answer(r)
+    w.answer(w.state().capa(out, capabilities))
 }
 
 #[unsafe(no_mangle)]
@@ -115,8 +112,7 @@ pub extern "C" fn citp_writer_unam(
 ) -> WriterAnswer
     ensures { (result, out.new) ≡ called (give (body kinds.UNam (universe_index, universe_name.now))) w out.old }
 {
-    let r = w.state().unam(out, universe_index, universe_name);
-    w.answer(r)
+    w.answer(w.state().unam(out, universe_index, universe_name))
 }
 
 #[unsafe(no_mangle)]
@@ -130,10 +126,10 @@ pub extern "C" fn citp_writer_chbk(
 ) -> WriterAnswer
     ensures { (result, out.new) ≡ called (give (body kinds.ChBk (blind, (universe_index, (first_channel, channel_levels.now))))) w out.old }
 {
-    let r = w
-        .state()
-        .chbk(out, blind, universe_index, first_channel, channel_levels);
-    w.answer(r)
+    w.answer(
+        w.state()
+            .chbk(out, blind, universe_index, first_channel, channel_levels),
+    )
 }
 
 #[unsafe(no_mangle)]
@@ -144,9 +140,7 @@ pub extern "C" fn citp_writer_chls(
 ) -> WriterAnswer
     ensures { (result, out.new) ≡ called (give (body kinds.ChLs (map level_value channel_levels.now))) w out.old }
 {
-    let state = w.state();
-    let r = state.chls(out, channel_levels);
-    w.answer(r)
+    w.answer(w.state().chls(out, channel_levels))
 }
 
 #[unsafe(no_mangle)]
@@ -158,8 +152,7 @@ pub extern "C" fn citp_writer_sxus(
 ) -> WriterAnswer
     ensures { (result, out.new) ≡ called (give (body kinds.Sxus (universe_index, connection_string.now))) w out.old }
 {
-    let r = w.state().sxus(out, universe_index, connection_string);
-    w.answer(r)
+    w.answer(w.state().sxus(out, universe_index, connection_string))
 }
 
 #[unsafe(no_mangle)]
@@ -174,19 +167,21 @@ pub extern "C" fn citp_writer_ptch(
     fixture_make: &[u8],
     fixture_name: &[u8],
 ) -> WriterAnswer
-    ensures { (result, out.new) ≡ called (give (body kinds.Ptch (fixture_identifier, (universe, (reserved, (channel, (channel_count, (fixture_make.now, fixture_name.now)))))))) w out.old }
+    ensures { (result, out.new) ≡ called (give (body kinds.Ptch
+        (fixture_identifier, (universe, (reserved, (channel, (channel_count, (fixture_make.now, fixture_name.now)))))))) w out.old }
 {
-    let r = w.state().ptch(
-        out,
-        fixture_identifier,
-        universe,
-        reserved,
-        channel,
-        channel_count,
-        fixture_make,
-        fixture_name,
-    );
-    w.answer(r)
+    w.answer(
+        w.state().ptch(
+            out,
+            fixture_identifier,
+            universe,
+            reserved,
+            channel,
+            channel_count,
+            fixture_make,
+            fixture_name,
+        ),
+    )
 }
 
 #[unsafe(no_mangle)]
@@ -197,8 +192,7 @@ pub extern "C" fn citp_writer_uptc(
 ) -> WriterAnswer
     ensures { (result, out.new) ≡ called (give (body kinds.UPtc fixture_identifiers.now)) w out.old }
 {
-    let r = w.state().uptc(out, fixture_identifiers);
-    w.answer(r)
+    w.answer(w.state().uptc(out, fixture_identifiers))
 }
 
 #[unsafe(no_mangle)]
@@ -209,8 +203,7 @@ pub extern "C" fn citp_writer_sptc(
 ) -> WriterAnswer
     ensures { (result, out.new) ≡ called (give (body kinds.SPtc fixture_identifiers.now)) w out.old }
 {
-    let r = w.state().sptc(out, fixture_identifiers);
-    w.answer(r)
+    w.answer(w.state().sptc(out, fixture_identifiers))
 }
 
 #[unsafe(no_mangle)]
@@ -223,8 +216,7 @@ pub extern "C" fn citp_writer_sele(
 ) -> WriterAnswer
     ensures { (result, out.new) ≡ called (give (body kinds.Sele (complete, (reserved, fixture_identifiers.now)))) w out.old }
 {
-    let r = w.state().sele(out, complete, reserved, fixture_identifiers);
-    w.answer(r)
+    w.answer(w.state().sele(out, complete, reserved, fixture_identifiers))
 }
 
 #[unsafe(no_mangle)]
@@ -235,8 +227,7 @@ pub extern "C" fn citp_writer_dese(
 ) -> WriterAnswer
     ensures { (result, out.new) ≡ called (give (body kinds.DeSe fixture_identifiers.now)) w out.old }
 {
-    let r = w.state().dese(out, fixture_identifiers);
-    w.answer(r)
+    w.answer(w.state().dese(out, fixture_identifiers))
 }
 
 #[unsafe(no_mangle)]
@@ -247,8 +238,7 @@ pub extern "C" fn citp_writer_sfra(
 ) -> WriterAnswer
     ensures { (result, out.new) ≡ called (give (body kinds.SFra fixture_identifiers.now)) w out.old }
 {
-    let r = w.state().sfra(out, fixture_identifiers);
-    w.answer(r)
+    w.answer(w.state().sfra(out, fixture_identifiers))
 }
 
 #[unsafe(no_mangle)]
@@ -260,24 +250,25 @@ pub extern "C" fn citp_writer_fram(
     frame_gobo_count: u8,
     frame_names: &[u8],
 ) -> WriterAnswer
-    ensures { (result, out.new) ≡ called (give (body kinds.Fram (fixture_identifier, (frame_filter_count, (frame_gobo_count, frame_names.now))))) w out.old }
+    ensures { (result, out.new) ≡ called (give (body kinds.Fram
+        (fixture_identifier, (frame_filter_count, (frame_gobo_count, frame_names.now))))) w out.old }
 {
-    let r = w.state().fram(
-        out,
-        fixture_identifier,
-        frame_filter_count,
-        frame_gobo_count,
-        frame_names,
-    );
-    w.answer(r)
+    w.answer(
+        w.state().fram(
+            out,
+            fixture_identifier,
+            frame_filter_count,
+            frame_gobo_count,
+            frame_names,
+        ),
+    )
 }
 
 #[unsafe(no_mangle)]
 pub extern "C" fn citp_writer_pnam(w: WriterState, out: &mut [u8], name: &[u8]) -> WriterAnswer
     ensures { (result, out.new) ≡ called (give (body kinds.PNam name.now)) w out.old }
 {
-    let r = w.state().pnam(out, name);
-    w.answer(r)
+    w.answer(w.state().pnam(out, name))
 }
 
 #[unsafe(no_mangle)]
@@ -291,8 +282,7 @@ pub extern "C" fn citp_writer_ploc(
 ) -> WriterAnswer
     ensures { (result, out.new) ≡ called (give (body kinds.PLoc (listening_tcp_port, (kind.now, (name.now, state.now))))) w out.old }
 {
-    let r = w.state().ploc(out, listening_tcp_port, kind, name, state);
-    w.answer(r)
+    w.answer(w.state().ploc(out, listening_tcp_port, kind, name, state))
 }
 
 // ---- a fixture list: its head, then for each fixture head, identifiers, data
@@ -304,13 +294,13 @@ pub extern "C" fn citp_writer_fixture_list_head(
     message_type: u8,
     fixture_count: usize,
 ) -> WriterAnswer
-    ensures { (result, out.new) ≡ by_code (λ t. called (give (fixture_list t fixture_count)) w out.old) (λ n. (refused_with w n, out.old)) (in_range 3 9 message_type) }
+    ensures { (result, out.new) ≡ by_code
+        (λ t. called (give (fixture_list t fixture_count)) w out.old) (λ n. (refused_with w n, out.old)) (in_range 3 9 message_type) }
 {
-    let FixtureListMessageTypeRead::Read(t) = FixtureListMessageType::from_u8(message_type) else {
-        return w.refused(9);
-    };
-    let r = w.state().fixture_list_head(out, t, fixture_count);
-    w.answer(r)
+    match FixtureListMessageType::try_from(message_type) {
+        Ok(t) => w.answer(w.state().fixture_list_head(out, t, fixture_count)),
+        Err(refusal) => w.refused(refusal),
+    }
 }
 
 #[unsafe(no_mangle)]
@@ -325,19 +315,22 @@ pub extern "C" fn citp_writer_fixture_head(
     is_dimmer: u8,
     identifier_count: usize,
 ) -> WriterAnswer
-    ensures { (result, out.new) ≡ called (give (fixture (fixture_identifier, (manufacturer_name.now, (fixture_name.now, (mode_name.now, (channel_count, is_dimmer))))) identifier_count)) w out.old }
+    ensures { (result, out.new) ≡ called (give (fixture
+        (fixture_identifier, (manufacturer_name.now, (fixture_name.now, (mode_name.now, (channel_count, is_dimmer)))))
+        identifier_count)) w out.old }
 {
-    let r = w.state().fixture_head(
-        out,
-        fixture_identifier,
-        manufacturer_name,
-        fixture_name,
-        mode_name,
-        channel_count,
-        is_dimmer,
-        identifier_count,
-    );
-    w.answer(r)
+    w.answer(
+        w.state().fixture_head(
+            out,
+            fixture_identifier,
+            manufacturer_name,
+            fixture_name,
+            mode_name,
+            channel_count,
+            is_dimmer,
+            identifier_count,
+        ),
+    )
 }
 
 #[unsafe(no_mangle)]
@@ -347,13 +340,13 @@ pub extern "C" fn citp_writer_identifier(
     identifier_type: u8,
     data: &[u8],
 ) -> WriterAnswer
-    ensures { (result, out.new) ≡ by_code (λ t. called (give (identifier (t, «data».now))) w out.old) (λ n. (refused_with w n, out.old)) (in_range 6 10 identifier_type) }
+    ensures { (result, out.new) ≡ by_code
+        (λ t. called (give (identifier (t, «data».now))) w out.old) (λ n. (refused_with w n, out.old)) (in_range 6 10 identifier_type) }
 {
-    let IdentifierTypeRead::Read(t) = IdentifierType::from_u8(identifier_type) else {
-        return w.refused(10);
-    };
-    let r = w.state().identifier(out, t, data);
-    w.answer(r)
+    match IdentifierType::try_from(identifier_type) {
+        Ok(t) => w.answer(w.state().identifier(out, t, data)),
+        Err(refusal) => w.refused(refusal),
+    }
 }
 
 #[unsafe(no_mangle)]
@@ -368,8 +361,7 @@ pub extern "C" fn citp_writer_fixture_data(
     ensures { (result, out.new) ≡ called (give (fixture_data (value_of «data» unit.now circuit.now note.now))) w out.old }
 {
     let x = fixture_data(data);
-    let r = w.state().fixture_data(out, x, unit, circuit, note);
-    w.answer(r)
+    w.answer(w.state().fixture_data(out, x, unit, circuit, note))
 }
 
 // ---- laser feeds: a head, then names or points
@@ -383,8 +375,7 @@ pub extern "C" fn citp_writer_laser_feed_list_head(
 ) -> WriterAnswer
     ensures { (result, out.new) ≡ called (give (laser_feed_list source_key feed_count)) w out.old }
 {
-    let r = w.state().laser_feed_list_head(out, source_key, feed_count);
-    w.answer(r)
+    w.answer(w.state().laser_feed_list_head(out, source_key, feed_count))
 }
 
 #[unsafe(no_mangle)]
@@ -395,8 +386,7 @@ pub extern "C" fn citp_writer_feed_name(
 ) -> WriterAnswer
     ensures { (result, out.new) ≡ called (give (part.feed_name feed_name.now)) w out.old }
 {
-    let r = w.state().feed_name(out, feed_name);
-    w.answer(r)
+    w.answer(w.state().feed_name(out, feed_name))
 }
 
 #[unsafe(no_mangle)]
@@ -410,10 +400,10 @@ pub extern "C" fn citp_writer_laser_feed_frame_head(
 ) -> WriterAnswer
     ensures { (result, out.new) ≡ called (give (laser_feed_frame source_key feed_index frame_sequence point_count)) w out.old }
 {
-    let r = w
-        .state()
-        .laser_feed_frame_head(out, source_key, feed_index, frame_sequence, point_count);
-    w.answer(r)
+    w.answer(
+        w.state()
+            .laser_feed_frame_head(out, source_key, feed_index, frame_sequence, point_count),
+    )
 }
 
 #[unsafe(no_mangle)]
@@ -433,6 +423,5 @@ pub extern "C" fn citp_writer_laser_point(
         xy_high_nibbles,
         color,
     };
-    let r = w.state().laser_point(out, point);
-    w.answer(r)
+    w.answer(w.state().laser_point(out, point))
 }

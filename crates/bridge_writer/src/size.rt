@@ -16,7 +16,7 @@ use fixture::{FixtureData, Identifier};
 use fptc::{Ptch, SPtc, UPtc};
 use fsel::{DeSe, Sele};
 use pinf::{PLoc, PNam};
-use sdmx::{Capa, ChBk, Sxus, UNam};
+use sdmx::{Capa, ChBk, ChLs, Sxus, UNam};
 
 #[unsafe(no_mangle)]
 pub extern "C" fn citp_enter_show_size(name: &[u16]) -> usize
@@ -65,7 +65,7 @@ pub extern "C" fn citp_chbk_size(channel_levels: &[u8]) -> usize
 pub extern "C" fn citp_chls_size(count: usize) -> usize
     ensures { result ≡ capped (size chls (replicate count (0, (0, 0)))) }
 {
-    chls::size_bytes(count)
+    ChLs::size_bytes(count)
 }
 
 #[unsafe(no_mangle)]
@@ -147,7 +147,8 @@ pub extern "C" fn citp_identifier_size(data: &[u8]) -> usize
 
 #[unsafe(no_mangle)]
 pub extern "C" fn citp_fixture_data_size(unit: &[u16], circuit: &[u16], note: &[u16]) -> usize
-    ensures { result ≡ capped (size fixture_data_format (0, (0, (0, (unit.now, (0, (circuit.now, (note.now, (0, (0, (0, (0, (0, 0))))))))))))) }
+    ensures { result ≡ capped (size fixture_data_format
+        (0, (0, (0, (unit.now, (0, (circuit.now, (note.now, (0, (0, (0, (0, (0, 0))))))))))))) }
 {
     FixtureData::size_bytes(unit, circuit, note)
 }

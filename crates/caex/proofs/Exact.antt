@@ -1,127 +1,76 @@
--- What an answer says determines it: nothing is lost.
-use Prim.Native.Nat.{ℕ, zero, suc}
-use mathlib.Core.Path.{◌≡◌, refl, ap}
-use Rattle.format.specs.View.{View, Seen, seen, missed, Next, item, done, broken}
+-- A view determines what is viewed, and a code its type: nothing is lost.
+use Rattle.std.proofs.Common.{ℕ, [], ◌∷◌, get_or, ◌≡◌, refl}
+use Rattle.format.specs.View.{View}
 use Rattle.protocol.specs.Kind as kind
-use Rattle.protocol.specs.Kind.{body_of, feed_name_format, laser_point_format}
-use Rattle.protocol.proofs.Bodies.{body_by, if_kind, as_kind}
-use Rattle.wire.proofs.Says.{read_by}
-use Rattle.caex.specs.Codes.{message_type_code, message_type_says}
+use Rattle.protocol.specs.Kind.{body_of, laser_point_format}
+use Rattle.protocol.proofs.Bodies.{if_kind, as_kind}
+use Rattle.caex.specs.Codes.{message_type_code}
+use Rattle.caex.specs.Write.{point_value}
 use Rattle.caex.specs.Says.{enter_show, fixture_list, fixture_remove, laser_feed_control, laser_feed_list, laser_feed_frame}
-use Rattle.caex.specs.Says.{enter_show_says, fixture_list_says, fixture_remove_says, laser_feed_control_says, laser_feed_list_says, laser_feed_frame_says}
-use Rattle.caex.specs.Says.{feed_names_next_says, laser_points_next_says}
-use Rattle.caex.specs.Says.{message_kind, message_view, message_says}
+use Rattle.caex.specs.Says.{enter_show_view, fixture_list_view, fixture_remove_view, laser_feed_control_view, laser_feed_list_view, laser_feed_frame_view}
+use Rattle.caex.specs.Says.{message_kind, message_view}
 use Rattle.caex.specs.declared.EnterShow.{EnterShow}
 use Rattle.caex.specs.declared.FixtureList.{FixtureList}
 use Rattle.caex.specs.declared.FixtureRemove.{FixtureRemove}
 use Rattle.caex.specs.declared.LaserFeedControl.{LaserFeedControl}
 use Rattle.caex.specs.declared.LaserFeedList.{LaserFeedList}
 use Rattle.caex.specs.declared.LaserFeedFrame.{LaserFeedFrame}
+use Rattle.caex.specs.declared.LaserPoint.{LaserPoint}
 use Rattle.caex.specs.declared.FixtureListMessageType.{FixtureListMessageType}
-use Rattle.caex.specs.declared.FixtureListMessageTypeRead.{FixtureListMessageTypeRead}
-use Rattle.caex.specs.declared.EnterShowRead.{EnterShowRead}
-use Rattle.caex.specs.declared.FixtureListRead.{FixtureListRead}
-use Rattle.caex.specs.declared.FixtureRemoveRead.{FixtureRemoveRead}
-use Rattle.caex.specs.declared.LaserFeedControlRead.{LaserFeedControlRead}
-use Rattle.caex.specs.declared.LaserFeedListRead.{LaserFeedListRead}
-use Rattle.caex.specs.declared.LaserFeedFrameRead.{LaserFeedFrameRead}
-use Rattle.caex.specs.declared.FeedNamesNext.{FeedNamesNext}
-use Rattle.caex.specs.declared.LaserPointsNext.{LaserPointsNext}
 use Rattle.caex.specs.declared.Message.{Message}
-use Rattle.caex.specs.declared.MessageRead.{MessageRead}
 use Rattle.caex.specs.declared.FixtureListMessageType.TheVariants.{ExistingPatchList, NewFixture, ExchangeFixture}
-use Rattle.caex.specs.declared.FixtureListMessageTypeRead.TheVariants as message-type
-use Rattle.caex.specs.declared.EnterShowRead.TheVariants as enter-show
-use Rattle.caex.specs.declared.FixtureListRead.TheVariants as fixture-list
-use Rattle.caex.specs.declared.FixtureRemoveRead.TheVariants as fixture-remove
-use Rattle.caex.specs.declared.LaserFeedControlRead.TheVariants as laser-feed-control
-use Rattle.caex.specs.declared.LaserFeedListRead.TheVariants as laser-feed-list
-use Rattle.caex.specs.declared.LaserFeedFrameRead.TheVariants as laser-feed-frame
-use Rattle.caex.specs.declared.FeedNamesNext.TheVariants as feed-names-next
-use Rattle.caex.specs.declared.LaserPointsNext.TheVariants as laser-points-next
 use Rattle.caex.specs.declared.Message.TheVariants as message
-use Rattle.caex.specs.declared.MessageRead.TheVariants as answer
 
-abbrev message_type : ℕ → FixtureListMessageType
-message_type zero = ExistingPatchList
-message_type (suc zero) = NewFixture
-message_type (suc (suc n)) = ExchangeFixture
+abbrev message_type_of : ℕ → FixtureListMessageType
+message_type_of n = get_or (ExistingPatchList ∷ NewFixture ∷ ExchangeFixture ∷ []) n ExchangeFixture
 
-message-type-exact : (t : FixtureListMessageType) → t ≡ message_type (message_type_code t)
-message-type-exact ExistingPatchList = refl
-message-type-exact NewFixture = refl
-message-type-exact ExchangeFixture = refl
-
-abbrev message_type_read : Seen ℕ → FixtureListMessageTypeRead
-message_type_read (seen t e) = message-type.Read (message_type t)
-message_type_read (missed n) = message-type.Unknown
-
-pub message-type-read-exact : (r : FixtureListMessageTypeRead) → r ≡ message_type_read (message_type_says r)
-message-type-read-exact (message-type.Read t) = ap message-type.Read (message-type-exact t)
-message-type-read-exact message-type.Unknown = refl
+pub message_type_code-exact : (t : FixtureListMessageType) → t ≡ message_type_of (message_type_code t)
+message_type_code-exact ExistingPatchList = refl
+message_type_code-exact NewFixture = refl
+message_type_code-exact ExchangeFixture = refl
 
 abbrev enter_show_of : View enter_show → EnterShow
 enter_show_of (a, a') = record { name = record { start = a; len = a' } }
 
-pub enter-show-exact : (r : EnterShowRead) → r ≡ read_by enter-show.Read enter-show.Refused enter_show_of (enter_show_says r)
-enter-show-exact (enter-show.Read x c) = refl
-enter-show-exact (enter-show.Refused n) = refl
+pub enter_show_view-exact : (x : EnterShow) → x ≡ enter_show_of (enter_show_view x)
+enter_show_view-exact x = refl
 
 abbrev fixture_list_of : View fixture_list → FixtureList
-fixture_list_of (a, (b, b')) = record { message_type = message_type a; fixtures = record { at = b; left = b' } }
+fixture_list_of (a, (b, b')) = record { message_type = message_type_of a; fixtures = record { at = b; left = b'; of = record {} } }
 
-pub fixture-list-exact : (r : FixtureListRead) → r ≡ read_by fixture-list.Read fixture-list.Refused fixture_list_of (fixture_list_says r)
-fixture-list-exact (fixture-list.Read x c) = rw (← message-type-exact x.message_type) refl
-fixture-list-exact (fixture-list.Refused n) = refl
+pub fixture_list_view-exact : (x : FixtureList) → x ≡ fixture_list_of (fixture_list_view x)
+fixture_list_view-exact x = rw (← message_type_code-exact x.message_type) refl
 
 abbrev fixture_remove_of : View fixture_remove → FixtureRemove
-fixture_remove_of (a, a') = record { fixture_identifiers = record { at = a; left = a' } }
+fixture_remove_of (a, a') = record { fixture_identifiers = record { at = a; left = a'; of = record {} } }
 
-pub fixture-remove-exact : (r : FixtureRemoveRead) → r ≡ read_by fixture-remove.Read fixture-remove.Refused fixture_remove_of (fixture_remove_says r)
-fixture-remove-exact (fixture-remove.Read x c) = refl
-fixture-remove-exact (fixture-remove.Refused n) = refl
+pub fixture_remove_view-exact : (x : FixtureRemove) → x ≡ fixture_remove_of (fixture_remove_view x)
+fixture_remove_view-exact x = refl
 
 abbrev laser_feed_control_of : View laser_feed_control → LaserFeedControl
 laser_feed_control_of (a, b) = record { feed_index = a; frame_rate = b }
 
-pub laser-feed-control-exact : (r : LaserFeedControlRead) → r ≡ read_by laser-feed-control.Read laser-feed-control.Refused laser_feed_control_of (laser_feed_control_says r)
-laser-feed-control-exact (laser-feed-control.Read x c) = refl
-laser-feed-control-exact (laser-feed-control.Refused n) = refl
+pub laser_feed_control_view-exact : (x : LaserFeedControl) → x ≡ laser_feed_control_of (laser_feed_control_view x)
+laser_feed_control_view-exact x = refl
 
 abbrev laser_feed_list_of : View laser_feed_list → LaserFeedList
-laser_feed_list_of (a, (b, b')) = record { source_key = a; feed_names = record { at = b; left = b' } }
+laser_feed_list_of (a, (b, b')) = record { source_key = a; feed_names = record { at = b; left = b'; of = record {} } }
 
-pub laser-feed-list-exact : (r : LaserFeedListRead) → r ≡ read_by laser-feed-list.Read laser-feed-list.Refused laser_feed_list_of (laser_feed_list_says r)
-laser-feed-list-exact (laser-feed-list.Read x c) = refl
-laser-feed-list-exact (laser-feed-list.Refused n) = refl
-
-abbrev feed_names_next_of : Next (View feed_name_format) → FeedNamesNext
-feed_names_next_of (item (a, a') e n) = feed-names-next.Item (record { start = a; len = a' }) (record { at = e; left = n })
-feed_names_next_of done = feed-names-next.Done
-feed_names_next_of (broken n) = feed-names-next.Refused n
-
-pub feed-names-next-exact : (r : FeedNamesNext) → r ≡ feed_names_next_of (feed_names_next_says r)
-feed-names-next-exact (feed-names-next.Item x l) = refl
-feed-names-next-exact feed-names-next.Done = refl
-feed-names-next-exact (feed-names-next.Refused n) = refl
+pub laser_feed_list_view-exact : (x : LaserFeedList) → x ≡ laser_feed_list_of (laser_feed_list_view x)
+laser_feed_list_view-exact x = refl
 
 abbrev laser_feed_frame_of : View laser_feed_frame → LaserFeedFrame
-laser_feed_frame_of (a, (b, (d, (f, f')))) = record { source_key = a; feed_index = b; frame_sequence = d; points = record { at = f; left = f' } }
+laser_feed_frame_of (a, (b, (d, (f, f')))) =
+    record { source_key = a; feed_index = b; frame_sequence = d; points = record { at = f; left = f'; of = record {} } }
 
-pub laser-feed-frame-exact : (r : LaserFeedFrameRead) → r ≡ read_by laser-feed-frame.Read laser-feed-frame.Refused laser_feed_frame_of (laser_feed_frame_says r)
-laser-feed-frame-exact (laser-feed-frame.Read x c) = refl
-laser-feed-frame-exact (laser-feed-frame.Refused n) = refl
+pub laser_feed_frame_view-exact : (x : LaserFeedFrame) → x ≡ laser_feed_frame_of (laser_feed_frame_view x)
+laser_feed_frame_view-exact x = refl
 
-abbrev laser_points_next_of : Next (View laser_point_format) → LaserPointsNext
-laser_points_next_of (item (a, (b, (d, f))) e n) =
-    laser-points-next.Item (record { x_low_byte = a; y_low_byte = b; xy_high_nibbles = d; color = f }) (record { at = e; left = n })
-laser_points_next_of done = laser-points-next.Done
-laser_points_next_of (broken n) = laser-points-next.Refused n
+abbrev point_of : View laser_point_format → LaserPoint
+point_of (a, (b, (d, f))) = record { x_low_byte = a; y_low_byte = b; xy_high_nibbles = d; color = f }
 
-pub laser-points-next-exact : (r : LaserPointsNext) → r ≡ laser_points_next_of (laser_points_next_says r)
-laser-points-next-exact (laser-points-next.Item x l) = refl
-laser-points-next-exact laser-points-next.Done = refl
-laser-points-next-exact (laser-points-next.Refused n) = refl
+pub point_value-exact : (x : LaserPoint) → x ≡ point_of (point_value x)
+point_value-exact x = refl
 
 -- ---- messages, a row for each kind
 
@@ -134,15 +83,10 @@ message_of k v =
     (if_kind kind.LaserFeedList (λ x. message.LaserFeedList (laser_feed_list_of x))
     (as_kind kind.LaserFeedFrame (λ x. message.LaserFeedFrame (laser_feed_frame_of x))))))) k v
 
-pub message-exact : (m : Message) → m ≡ message_of (message_kind m) (message_view m)
-message-exact (message.EnterShow x) = refl
-message-exact (message.FixtureList x) = rw (← message-type-exact x.message_type) refl
-message-exact (message.FixtureRemove x) = refl
-message-exact (message.LaserFeedControl x) = refl
-message-exact (message.LaserFeedList x) = refl
-message-exact (message.LaserFeedFrame x) = refl
-
-pub message-read-exact : (r : MessageRead) → r ≡ body_by (λ k v e. answer.Read (message_of k v) (record { at = e })) answer.Unknown answer.Refused (message_says r)
-message-read-exact (answer.Read m c) = rw (← message-exact m) refl
-message-read-exact answer.Unknown = refl
-message-read-exact (answer.Refused n) = refl
+pub message_view-exact : (m : Message) → m ≡ message_of (message_kind m) (message_view m)
+message_view-exact (message.EnterShow x) = refl
+message_view-exact (message.FixtureList x) = rw (← message_type_code-exact x.message_type) refl
+message_view-exact (message.FixtureRemove x) = refl
+message_view-exact (message.LaserFeedControl x) = refl
+message_view-exact (message.LaserFeedList x) = refl
+message_view-exact (message.LaserFeedFrame x) = refl

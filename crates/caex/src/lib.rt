@@ -4,28 +4,29 @@
 #![tactic(auto)]
 
 ghost use Rattle.std.specs.Prelude.{◌≡◌};
-ghost use Rattle.format.specs.Format.{number, size};
-ghost use Rattle.format.specs.View.{view, stepped};
-ghost use Rattle.format.specs.Passed.{passed, in_range};
+ghost use Rattle.format.specs.Format.{size};
+ghost use Rattle.format.specs.View.{view};
+ghost use Rattle.format.specs.Passed.{in_range};
 ghost use Rattle.protocol.specs.Kind.{feed_name_format, laser_point_format};
 ghost use Rattle.protocol.specs.Layer.{CAEX};
 ghost use Rattle.protocol.specs.Step.{read_body};
 ghost use Rattle.put.specs.Put.{capped, put_at, put_head};
-ghost use Rattle.caex.specs.Codes.{message_type_code, message_type_says};
+ghost use Rattle.refusal.specs.Says.{answer_says};
+ghost use Rattle.wire.specs.Says.{says, message_says};
+ghost use Rattle.fixture.specs.Codes.{code_says};
+ghost use Rattle.caex.specs.Codes.{message_type_code};
 ghost use Rattle.caex.specs.Says.{enter_show, fixture_list, fixture_remove, laser_feed_control, laser_feed_list, laser_feed_frame};
-ghost use Rattle.caex.specs.Says.{enter_show_says, fixture_list_says, fixture_remove_says, laser_feed_control_says, laser_feed_list_says};
-ghost use Rattle.caex.specs.Says.{feed_names_next_says, laser_feed_frame_says, laser_point_says, laser_points_next_says, message_says};
+ghost use Rattle.caex.specs.Says.{enter_show_view, fixture_list_view, fixture_remove_view, laser_feed_control_view, laser_feed_list_view};
+ghost use Rattle.caex.specs.Says.{laser_feed_frame_view, message_kind, message_view};
 ghost use Rattle.caex.specs.Write.{fixture_list_head, laser_feed_list_head, laser_feed_frame_head, point_value};
-ghost use Rattle.fixture.specs.Parts.{pass_says};
 
-use fixture::{Fixtures, PassRead};
+use fixture::Fixtures;
 use put::{
-    Put, holds_zero_unit, more, over_limit, put_number_1, put_number_2, put_u8, put_u16, put_u32,
-    put_u32_list, put_ucs2, u32_list_size, u32_list_too_long, ucs2_size, weigh,
+    Faults, list_size, put_list, put_number_1, put_number_2, put_u8, put_u16, put_u32, put_ucs2,
+    ucs2_size,
 };
-use wire::{
-    Cursor, ItemsRead, NAME_LIMIT, U8Read, U16Read, U32List, U32ListRead, U32Read, Ucs2, Ucs2Read,
-};
+use refusal::Refusal;
+use wire::{Cursor, Item, List, NAME_LIMIT, Ucs2};
 
 // The layer: its cookie, and the length of its headers with the base header.
 #[derive(Clone, Copy)]
@@ -45,83 +46,63 @@ pub struct EnterShow {
     pub name: Ucs2,
 }
 
-#[derive(Clone, Copy)]
-pub enum EnterShowRead {
-    Read(EnterShow, Cursor),
-    Refused(u8),
-}
-
 impl EnterShow {
     pub const CONTENT_TYPE: u32 = 0x00020100;
 
-    pub fn read_from_bytes(body: &[u8]) -> EnterShowRead
-        ensures { enter_show_says result ≡ view enter_show body.now 0 }
+    pub fn read_from_bytes(body: &[u8]) -> Result<(EnterShow, Cursor), Refusal>
+        ensures { says enter_show_view result ≡ view enter_show body.now 0 }
     {
-        let c = Cursor { at: 0 };
-        let answer = c.ucs2(body, NAME_LIMIT);
-        let Ucs2Read::Read(name, c) = answer else {
-            return EnterShowRead::Refused(answer.number());
-        };
-        EnterShowRead::Read(EnterShow { name }, c)
+        let (name, c) = Cursor::START.ucs2(body, NAME_LIMIT)?;
+        Ok((EnterShow { name }, c))
     }
 
+    #[tactic(auto, unfolding(format::specs::Format::size))]
     pub fn size_bytes(name: &[u16]) -> usize
         ensures { result ≡ capped (size enter_show name.now) }
     {
-        more(0, ucs2_size(name))
+        ucs2_size(name)
     }
 
-    pub fn write_to_bytes(out: &mut [u8], at: usize, name: &[u16]) -> Put
-        ensures { (result, out.new) ≡ put_at enter_show name.now at out.old }
+    pub fn write_to_bytes(out: &mut [u8], at: usize, name: &[u16]) -> Result<usize, Refusal>
+        ensures { (answer_says result, out.new) ≡ put_at enter_show name.now at out.old }
     {
-        let zeros = holds_zero_unit(name);
-        let over = over_limit(name.len(), NAME_LIMIT);
-        let len = EnterShow::size_bytes(name);
-        let number = weigh(zeros, over, false, at, len, out.len());
-        if number != 0 {
-            return Put { number, at };
-        }
-        let at = put_ucs2(out, at, name);
-        Put { number: 0, at }
+        Faults::NONE
+            .ucs2(name, NAME_LIMIT)
+            .weigh(at, EnterShow::size_bytes(name), out.len())?;
+        Ok(put_ucs2(out, at, name))
     }
 }
 
 // ---- lists of fixtures
 
-#[derive(Clone, Copy)]
+#[derive(Clone, Copy, PartialEq, Eq, Debug)]
 pub enum FixtureListMessageType {
-    ExistingPatchList,
-    NewFixture,
-    ExchangeFixture,
+    ExistingPatchList = 0,
+    NewFixture = 1,
+    ExchangeFixture = 2,
 }
 
-#[derive(Clone, Copy)]
-pub enum FixtureListMessageTypeRead {
-    Read(FixtureListMessageType),
-    // 9
-    Unknown,
+impl TryFrom<u8> for FixtureListMessageType {
+    type Error = Refusal;
+
+    ghost try_from_gives = { λ code r. code_says message_type_code r ≡ in_range 3 9 code };
+
+    #[tactic(auto, unfolding(format::specs::Passed::in_range))]
+    fn try_from(code: u8) -> Result<FixtureListMessageType, Refusal> {
+        match code {
+            0 => Ok(FixtureListMessageType::ExistingPatchList),
+            1 => Ok(FixtureListMessageType::NewFixture),
+            2 => Ok(FixtureListMessageType::ExchangeFixture),
+            _ => Err(Refusal::MessageType),
+        }
+    }
 }
 
 impl FixtureListMessageType {
-    pub fn from_u8(code: u8) -> FixtureListMessageTypeRead
-        ensures { message_type_says result ≡ in_range 3 9 code }
-    {
-        match code {
-            0 => FixtureListMessageTypeRead::Read(FixtureListMessageType::ExistingPatchList),
-            1 => FixtureListMessageTypeRead::Read(FixtureListMessageType::NewFixture),
-            2 => FixtureListMessageTypeRead::Read(FixtureListMessageType::ExchangeFixture),
-            _ => FixtureListMessageTypeRead::Unknown,
-        }
-    }
-
     pub fn code(self) -> u8
         ensures { result ≡ message_type_code self }
     {
-        match self {
-            FixtureListMessageType::ExistingPatchList => 0,
-            FixtureListMessageType::NewFixture => 1,
-            FixtureListMessageType::ExchangeFixture => 2,
-        }
+        self as u8
     }
 }
 
@@ -130,12 +111,6 @@ impl FixtureListMessageType {
 pub struct FixtureList {
     pub message_type: FixtureListMessageType,
     pub fixtures: Fixtures,
-}
-
-#[derive(Clone, Copy)]
-pub enum FixtureListRead {
-    Read(FixtureList, Cursor),
-    Refused(u8),
 }
 
 impl FixtureList {
@@ -147,35 +122,19 @@ impl FixtureList {
         self.fixtures.left
     }
 
-    pub fn read_from_bytes(body: &[u8]) -> FixtureListRead
-        ensures { fixture_list_says result ≡ view fixture_list body.now 0 }
+    pub fn read_from_bytes(body: &[u8]) -> Result<(FixtureList, Cursor), Refusal>
+        ensures { says fixture_list_view result ≡ view fixture_list body.now 0 }
     {
-        let c = Cursor { at: 0 };
-        let U8Read::Read(code, c) = c.u8(body) else {
-            return FixtureListRead::Refused(7);
-        };
-        let FixtureListMessageTypeRead::Read(message_type) = FixtureListMessageType::from_u8(code)
-        else {
-            return FixtureListRead::Refused(9);
-        };
-        let U16Read::Read(count, c) = c.u16(body) else {
-            return FixtureListRead::Refused(7);
-        };
-        let fixtures = Fixtures {
-            at: c.at,
-            left: count,
-        };
-        let answer = fixtures.pass(body);
-        let PassRead::Past(c) = answer else {
-            return FixtureListRead::Refused(answer.number());
-        };
-        FixtureListRead::Read(
+        let (code, c) = Cursor::START.u8(body)?;
+        let message_type = FixtureListMessageType::try_from(code)?;
+        let (fixtures, c) = Fixtures::read(body, c)?;
+        Ok((
             FixtureList {
                 message_type,
                 fixtures,
             },
             c,
-        )
+        ))
     }
 
     // The list up to its fixtures.
@@ -184,29 +143,21 @@ impl FixtureList {
         at: usize,
         message_type: FixtureListMessageType,
         fixture_count: usize,
-    ) -> Put
-        ensures { (result, out.new) ≡ put_head fixture_list_head (message_type_code message_type) 2 fixture_count at out.old }
+    ) -> Result<usize, Refusal>
+        ensures { (answer_says result, out.new) ≡ put_head fixture_list_head (message_type_code message_type) 2 fixture_count at out.old }
     {
-        let number = weigh(false, false, 65536 <= fixture_count, at, 3, out.len());
-        if number != 0 {
-            return Put { number, at };
-        }
+        Faults::NONE
+            .count(fixture_count, 65536)
+            .weigh(at, 3, out.len())?;
         let at = put_u8(out, at, message_type.code());
-        let at = put_number_2(out, at, fixture_count);
-        Put { number: 0, at }
+        Ok(put_number_2(out, at, fixture_count))
     }
 }
 
 // Fixtures that were removed.
 #[derive(Clone, Copy)]
 pub struct FixtureRemove {
-    pub fixture_identifiers: U32List,
-}
-
-#[derive(Clone, Copy)]
-pub enum FixtureRemoveRead {
-    Read(FixtureRemove, Cursor),
-    Refused(u8),
+    pub fixture_identifiers: List<u32, u16>,
 }
 
 impl FixtureRemove {
@@ -218,38 +169,37 @@ impl FixtureRemove {
         self.fixture_identifiers.left
     }
 
-    pub fn read_from_bytes(body: &[u8]) -> FixtureRemoveRead
-        ensures { fixture_remove_says result ≡ view fixture_remove body.now 0 }
+    pub fn read_from_bytes(body: &[u8]) -> Result<(FixtureRemove, Cursor), Refusal>
+        ensures { says fixture_remove_view result ≡ view fixture_remove body.now 0 }
     {
-        let c = Cursor { at: 0 };
-        let U32ListRead::Read(fixture_identifiers, c) = c.u32_list(body) else {
-            return FixtureRemoveRead::Refused(7);
-        };
-        FixtureRemoveRead::Read(
+        let (fixture_identifiers, c) = List::<u32, u16>::read(body, Cursor::START)?;
+        Ok((
             FixtureRemove {
                 fixture_identifiers,
             },
             c,
-        )
+        ))
     }
 
     pub fn size_bytes(fixture_identifiers: &[u32]) -> usize
         ensures { result ≡ capped (size fixture_remove fixture_identifiers.now) }
     {
-        more(0, u32_list_size(fixture_identifiers))
+        list_size(fixture_identifiers)
     }
 
-    pub fn write_to_bytes(out: &mut [u8], at: usize, fixture_identifiers: &[u32]) -> Put
-        ensures { (result, out.new) ≡ put_at fixture_remove fixture_identifiers.now at out.old }
+    pub fn write_to_bytes(
+        out: &mut [u8],
+        at: usize,
+        fixture_identifiers: &[u32],
+    ) -> Result<usize, Refusal>
+        ensures { (answer_says result, out.new) ≡ put_at fixture_remove fixture_identifiers.now at out.old }
     {
-        let long = u32_list_too_long(fixture_identifiers);
-        let len = FixtureRemove::size_bytes(fixture_identifiers);
-        let number = weigh(false, false, long, at, len, out.len());
-        if number != 0 {
-            return Put { number, at };
-        }
-        let at = put_u32_list(out, at, fixture_identifiers);
-        Put { number: 0, at }
+        Faults::NONE.list(fixture_identifiers).weigh(
+            at,
+            FixtureRemove::size_bytes(fixture_identifiers),
+            out.len(),
+        )?;
+        Ok(put_list(out, at, fixture_identifiers))
     }
 }
 
@@ -264,32 +214,21 @@ pub struct LaserFeedControl {
     pub frame_rate: u8,
 }
 
-#[derive(Clone, Copy)]
-pub enum LaserFeedControlRead {
-    Read(LaserFeedControl, Cursor),
-    Refused(u8),
-}
-
 impl LaserFeedControl {
     pub const CONTENT_TYPE: u32 = 0x00030102;
 
-    pub fn read_from_bytes(body: &[u8]) -> LaserFeedControlRead
-        ensures { laser_feed_control_says result ≡ view laser_feed_control body.now 0 }
+    pub fn read_from_bytes(body: &[u8]) -> Result<(LaserFeedControl, Cursor), Refusal>
+        ensures { says laser_feed_control_view result ≡ view laser_feed_control body.now 0 }
     {
-        let c = Cursor { at: 0 };
-        let U8Read::Read(feed_index, c) = c.u8(body) else {
-            return LaserFeedControlRead::Refused(7);
-        };
-        let U8Read::Read(frame_rate, c) = c.u8(body) else {
-            return LaserFeedControlRead::Refused(7);
-        };
-        LaserFeedControlRead::Read(
+        let (feed_index, c) = Cursor::START.u8(body)?;
+        let (frame_rate, c) = c.u8(body)?;
+        Ok((
             LaserFeedControl {
                 feed_index,
                 frame_rate,
             },
             c,
-        )
+        ))
     }
 
     pub fn size_bytes() -> usize
@@ -298,17 +237,17 @@ impl LaserFeedControl {
         2
     }
 
-    pub fn write_to_bytes(out: &mut [u8], at: usize, feed_index: u8, frame_rate: u8) -> Put
-        ensures { (result, out.new) ≡ put_at laser_feed_control (feed_index, frame_rate) at out.old }
+    pub fn write_to_bytes(
+        out: &mut [u8],
+        at: usize,
+        feed_index: u8,
+        frame_rate: u8,
+    ) -> Result<usize, Refusal>
+        ensures { (answer_says result, out.new) ≡ put_at laser_feed_control (feed_index, frame_rate) at out.old }
     {
-        let len = LaserFeedControl::size_bytes();
-        let number = weigh(false, false, false, at, len, out.len());
-        if number != 0 {
-            return Put { number, at };
-        }
+        Faults::NONE.weigh(at, LaserFeedControl::size_bytes(), out.len())?;
         let at = put_u8(out, at, feed_index);
-        let at = put_u8(out, at, frame_rate);
-        Put { number: 0, at }
+        Ok(put_u8(out, at, frame_rate))
     }
 }
 
@@ -320,11 +259,8 @@ pub struct LaserFeedList {
     pub feed_names: FeedNames,
 }
 
-#[derive(Clone, Copy)]
-pub enum LaserFeedListRead {
-    Read(LaserFeedList, Cursor),
-    Refused(u8),
-}
+// What is left of a list of feed names.
+pub type FeedNames = List<Ucs2, u8>;
 
 impl LaserFeedList {
     pub const CONTENT_TYPE: u32 = 0x00030101;
@@ -335,109 +271,39 @@ impl LaserFeedList {
         self.feed_names.left
     }
 
-    pub fn read_from_bytes(body: &[u8]) -> LaserFeedListRead
-        ensures { laser_feed_list_says result ≡ view laser_feed_list body.now 0 }
+    pub fn read_from_bytes(body: &[u8]) -> Result<(LaserFeedList, Cursor), Refusal>
+        ensures { says laser_feed_list_view result ≡ view laser_feed_list body.now 0 }
     {
-        let c = Cursor { at: 0 };
-        let U32Read::Read(source_key, c) = c.u32(body) else {
-            return LaserFeedListRead::Refused(7);
-        };
-        let U8Read::Read(feed_count, c) = c.u8(body) else {
-            return LaserFeedListRead::Refused(7);
-        };
-        let feed_names = FeedNames {
-            at: c.at,
-            left: feed_count,
-        };
-        let answer = feed_names.pass(body);
-        let PassRead::Past(c) = answer else {
-            return LaserFeedListRead::Refused(answer.number());
-        };
-        LaserFeedListRead::Read(
+        let (source_key, c) = Cursor::START.u32(body)?;
+        let (feed_names, c) = FeedNames::read(body, c)?;
+        Ok((
             LaserFeedList {
                 source_key,
                 feed_names,
             },
             c,
-        )
+        ))
     }
 
     // The list up to its names.
-    pub fn write_head(out: &mut [u8], at: usize, source_key: u32, feed_count: usize) -> Put
-        ensures { (result, out.new) ≡ put_head laser_feed_list_head source_key 1 feed_count at out.old }
+    pub fn write_head(
+        out: &mut [u8],
+        at: usize,
+        source_key: u32,
+        feed_count: usize,
+    ) -> Result<usize, Refusal>
+        ensures { (answer_says result, out.new) ≡ put_head laser_feed_list_head source_key 1 feed_count at out.old }
     {
-        let number = weigh(false, false, 256 <= feed_count, at, 5, out.len());
-        if number != 0 {
-            return Put { number, at };
-        }
+        Faults::NONE.count(feed_count, 256).weigh(at, 5, out.len())?;
         let at = put_u32(out, at, source_key);
-        let at = put_number_1(out, at, feed_count);
-        Put { number: 0, at }
+        Ok(put_number_1(out, at, feed_count))
     }
 
     // A string alone, as an EnterShow's name is.
-    pub fn write_name(out: &mut [u8], at: usize, feed_name: &[u16]) -> Put
-        ensures { (result, out.new) ≡ put_at feed_name_format feed_name.now at out.old }
+    pub fn write_name(out: &mut [u8], at: usize, feed_name: &[u16]) -> Result<usize, Refusal>
+        ensures { (answer_says result, out.new) ≡ put_at feed_name_format feed_name.now at out.old }
     {
         EnterShow::write_to_bytes(out, at, feed_name)
-    }
-}
-
-// What is left of a list of feed names.
-#[derive(Clone, Copy)]
-pub struct FeedNames {
-    pub at: usize,
-    pub left: u8,
-}
-
-// A step through a list: an item and what is left behind it. A list that was read meets no refusal, a made-up one may.
-#[derive(Clone, Copy)]
-pub enum FeedNamesNext {
-    Item(Ucs2, FeedNames),
-    Done,
-    Refused(u8),
-}
-
-impl FeedNames {
-    pub fn next(self, body: &[u8]) -> FeedNamesNext
-        ensures { feed_names_next_says result ≡ stepped feed_name_format body.now self.at self.left }
-    {
-        let left = self.left;
-        if left == 0 {
-            return FeedNamesNext::Done;
-        }
-        let c = Cursor { at: self.at };
-        let name = c.ucs2(body, NAME_LIMIT);
-        let Ucs2Read::Read(feed_name, c) = name else {
-            return FeedNamesNext::Refused(name.number());
-        };
-        FeedNamesNext::Item(
-            feed_name,
-            FeedNames {
-                at: c.at,
-                left: left - 1,
-            },
-        )
-    }
-
-    // Steps to the end.
-    fn pass(self, body: &[u8]) -> PassRead
-        ensures { pass_says result ≡ passed feed_name_format body.now self.at self.left }
-    {
-        let mut rest = self;
-        loop {
-            match rest.next(body) {
-                FeedNamesNext::Item(_, more) => {
-                    rest = more;
-                }
-                FeedNamesNext::Done => {
-                    return PassRead::Past(Cursor { at: rest.at });
-                }
-                FeedNamesNext::Refused(n) => {
-                    return PassRead::Refused(n);
-                }
-            }
-        }
     }
 }
 
@@ -453,12 +319,6 @@ pub struct LaserFeedFrame {
     pub points: LaserPoints,
 }
 
-#[derive(Clone, Copy)]
-pub enum LaserFeedFrameRead {
-    Read(LaserFeedFrame, Cursor),
-    Refused(u8),
-}
-
 impl LaserFeedFrame {
     pub const CONTENT_TYPE: u32 = 0x00030200;
 
@@ -468,27 +328,14 @@ impl LaserFeedFrame {
         self.points.left
     }
 
-    pub fn read_from_bytes(body: &[u8]) -> LaserFeedFrameRead
-        ensures { laser_feed_frame_says result ≡ view laser_feed_frame body.now 0 }
+    pub fn read_from_bytes(body: &[u8]) -> Result<(LaserFeedFrame, Cursor), Refusal>
+        ensures { says laser_feed_frame_view result ≡ view laser_feed_frame body.now 0 }
     {
-        let c = Cursor { at: 0 };
-        let U32Read::Read(source_key, c) = c.u32(body) else {
-            return LaserFeedFrameRead::Refused(7);
-        };
-        let U8Read::Read(feed_index, c) = c.u8(body) else {
-            return LaserFeedFrameRead::Refused(7);
-        };
-        let U32Read::Read(frame_sequence, c) = c.u32(body) else {
-            return LaserFeedFrameRead::Refused(7);
-        };
-        let ItemsRead::Read(items, c) = c.items(body, LaserPoint::WIDTH) else {
-            return LaserFeedFrameRead::Refused(7);
-        };
-        let points = LaserPoints {
-            at: items.at,
-            left: items.left,
-        };
-        LaserFeedFrameRead::Read(
+        let (source_key, c) = Cursor::START.u32(body)?;
+        let (feed_index, c) = c.u8(body)?;
+        let (frame_sequence, c) = c.u32(body)?;
+        let (points, c) = LaserPoints::read(body, c)?;
+        Ok((
             LaserFeedFrame {
                 source_key,
                 feed_index,
@@ -496,7 +343,7 @@ impl LaserFeedFrame {
                 points,
             },
             c,
-        )
+        ))
     }
 
     // The frame up to its points.
@@ -507,24 +354,22 @@ impl LaserFeedFrame {
         feed_index: u8,
         frame_sequence: u32,
         point_count: usize,
-    ) -> Put
-        ensures { (result, out.new) ≡ put_head laser_feed_frame_head (source_key, (feed_index, frame_sequence)) 2 point_count at out.old }
+    ) -> Result<usize, Refusal>
+        ensures { (answer_says result, out.new) ≡ put_head laser_feed_frame_head (source_key, (feed_index, frame_sequence)) 2 point_count at out.old }
     {
-        let number = weigh(false, false, 65536 <= point_count, at, 11, out.len());
-        if number != 0 {
-            return Put { number, at };
-        }
+        Faults::NONE
+            .count(point_count, 65536)
+            .weigh(at, 11, out.len())?;
         let at = put_u32(out, at, source_key);
         let at = put_u8(out, at, feed_index);
         let at = put_u32(out, at, frame_sequence);
-        let at = put_number_2(out, at, point_count);
-        Put { number: 0, at }
+        Ok(put_number_2(out, at, point_count))
     }
 }
 
 // A point of a frame.
 #[repr(C)]
-#[derive(Clone, Copy)]
+#[derive(Clone, Copy, Default)]
 pub struct LaserPoint {
     pub x_low_byte: u8,
     pub y_low_byte: u8,
@@ -534,32 +379,20 @@ pub struct LaserPoint {
     pub color: u16,
 }
 
-#[derive(Clone, Copy)]
-enum LaserPointRead {
-    Read(LaserPoint, Cursor),
-    Short,
-}
+// What is left of a frame's points.
+pub type LaserPoints = List<LaserPoint, u16>;
 
-impl LaserPoint {
-    // The bytes of a point.
-    const WIDTH: usize = 5;
+impl Item for LaserPoint {
+    ghost format = { laser_point_format };
 
-    fn read_from_bytes(c: Cursor, body: &[u8]) -> LaserPointRead
-        ensures { laser_point_says result ≡ view laser_point_format body.now c.at }
-    {
-        let U8Read::Read(x_low_byte, c) = c.u8(body) else {
-            return LaserPointRead::Short;
-        };
-        let U8Read::Read(y_low_byte, c) = c.u8(body) else {
-            return LaserPointRead::Short;
-        };
-        let U8Read::Read(xy_high_nibbles, c) = c.u8(body) else {
-            return LaserPointRead::Short;
-        };
-        let U16Read::Read(color, c) = c.u16(body) else {
-            return LaserPointRead::Short;
-        };
-        LaserPointRead::Read(
+    ghost item_view = { point_value };
+
+    fn read(body: &[u8], c: Cursor) -> Result<(LaserPoint, Cursor), Refusal> {
+        let (x_low_byte, c) = c.u8(body)?;
+        let (y_low_byte, c) = c.u8(body)?;
+        let (xy_high_nibbles, c) = c.u8(body)?;
+        let (color, c) = c.u16(body)?;
+        Ok((
             LaserPoint {
                 x_low_byte,
                 y_low_byte,
@@ -567,8 +400,17 @@ impl LaserPoint {
                 color,
             },
             c,
-        )
+        ))
     }
+
+    fn pass(body: &[u8], c: Cursor, n: usize) -> Result<Cursor, Refusal> {
+        c.skip_items(body, n, LaserPoint::WIDTH)
+    }
+}
+
+impl LaserPoint {
+    // The bytes of a point.
+    const WIDTH: usize = 5;
 
     pub fn size_bytes() -> usize
         ensures { result ≡ size laser_point_format (0, (0, (0, 0))) }
@@ -576,55 +418,14 @@ impl LaserPoint {
         LaserPoint::WIDTH
     }
 
-    pub fn write_to_bytes(self, out: &mut [u8], at: usize) -> Put
-        ensures { (result, out.new) ≡ put_at laser_point_format (point_value self) at out.old }
+    pub fn write_to_bytes(self, out: &mut [u8], at: usize) -> Result<usize, Refusal>
+        ensures { (answer_says result, out.new) ≡ put_at laser_point_format (point_value self) at out.old }
     {
-        let len = LaserPoint::size_bytes();
-        let number = weigh(false, false, false, at, len, out.len());
-        if number != 0 {
-            return Put { number, at };
-        }
+        Faults::NONE.weigh(at, LaserPoint::size_bytes(), out.len())?;
         let at = put_u8(out, at, self.x_low_byte);
         let at = put_u8(out, at, self.y_low_byte);
         let at = put_u8(out, at, self.xy_high_nibbles);
-        let at = put_u16(out, at, self.color);
-        Put { number: 0, at }
-    }
-}
-
-// What is left of a list of points.
-#[derive(Clone, Copy)]
-pub struct LaserPoints {
-    pub at: usize,
-    pub left: u16,
-}
-
-#[derive(Clone, Copy)]
-pub enum LaserPointsNext {
-    Item(LaserPoint, LaserPoints),
-    Done,
-    Refused(u8),
-}
-
-impl LaserPoints {
-    pub fn next(self, body: &[u8]) -> LaserPointsNext
-        ensures { laser_points_next_says result ≡ stepped laser_point_format body.now self.at self.left }
-    {
-        let left = self.left;
-        if left == 0 {
-            return LaserPointsNext::Done;
-        }
-        let c = Cursor { at: self.at };
-        let LaserPointRead::Read(point, c) = LaserPoint::read_from_bytes(c, body) else {
-            return LaserPointsNext::Refused(7);
-        };
-        LaserPointsNext::Item(
-            point,
-            LaserPoints {
-                at: c.at,
-                left: left - 1,
-            },
-        )
+        Ok(put_u16(out, at, self.color))
     }
 }
 
@@ -641,47 +442,40 @@ pub enum Message {
     LaserFeedFrame(LaserFeedFrame),
 }
 
-// A message with the cursor behind its body; a content type of no kind that is read; a body that cannot be read.
-#[derive(Clone, Copy)]
-pub enum MessageRead {
-    Read(Message, Cursor),
-    Unknown,
-    Refused(u8),
-}
-
 impl Message {
-    pub fn read_from_bytes(content_type: u32, body: &[u8]) -> MessageRead
-        ensures { message_says result ≡ read_body CAEX content_type body.now }
+    // A message with the cursor behind its body; none where its content type is of no kind that is read.
+    pub fn read_from_bytes(
+        content_type: u32,
+        body: &[u8],
+    ) -> Result<Option<(Message, Cursor)>, Refusal>
+        ensures { message_says message_kind message_view result ≡ read_body CAEX content_type body.now }
     {
         match content_type {
-            EnterShow::CONTENT_TYPE => match EnterShow::read_from_bytes(body) {
-                EnterShowRead::Read(m, c) => MessageRead::Read(Message::EnterShow(m), c),
-                EnterShowRead::Refused(n) => MessageRead::Refused(n),
-            },
-            FixtureList::CONTENT_TYPE => match FixtureList::read_from_bytes(body) {
-                FixtureListRead::Read(m, c) => MessageRead::Read(Message::FixtureList(m), c),
-                FixtureListRead::Refused(n) => MessageRead::Refused(n),
-            },
-            FixtureRemove::CONTENT_TYPE => match FixtureRemove::read_from_bytes(body) {
-                FixtureRemoveRead::Read(m, c) => MessageRead::Read(Message::FixtureRemove(m), c),
-                FixtureRemoveRead::Refused(n) => MessageRead::Refused(n),
-            },
-            LaserFeedControl::CONTENT_TYPE => match LaserFeedControl::read_from_bytes(body) {
-                LaserFeedControlRead::Read(m, c) => MessageRead::Read(
-                    Message::LaserFeedControl(m),
-                    c,
-                ),
-                LaserFeedControlRead::Refused(n) => MessageRead::Refused(n),
-            },
-            LaserFeedList::CONTENT_TYPE => match LaserFeedList::read_from_bytes(body) {
-                LaserFeedListRead::Read(m, c) => MessageRead::Read(Message::LaserFeedList(m), c),
-                LaserFeedListRead::Refused(n) => MessageRead::Refused(n),
-            },
-            LaserFeedFrame::CONTENT_TYPE => match LaserFeedFrame::read_from_bytes(body) {
-                LaserFeedFrameRead::Read(m, c) => MessageRead::Read(Message::LaserFeedFrame(m), c),
-                LaserFeedFrameRead::Refused(n) => MessageRead::Refused(n),
-            },
-            _ => MessageRead::Unknown,
+            EnterShow::CONTENT_TYPE => {
+                let (m, c) = EnterShow::read_from_bytes(body)?;
+                Ok(Some((Message::EnterShow(m), c)))
+            }
+            FixtureList::CONTENT_TYPE => {
+                let (m, c) = FixtureList::read_from_bytes(body)?;
+                Ok(Some((Message::FixtureList(m), c)))
+            }
+            FixtureRemove::CONTENT_TYPE => {
+                let (m, c) = FixtureRemove::read_from_bytes(body)?;
+                Ok(Some((Message::FixtureRemove(m), c)))
+            }
+            LaserFeedControl::CONTENT_TYPE => {
+                let (m, c) = LaserFeedControl::read_from_bytes(body)?;
+                Ok(Some((Message::LaserFeedControl(m), c)))
+            }
+            LaserFeedList::CONTENT_TYPE => {
+                let (m, c) = LaserFeedList::read_from_bytes(body)?;
+                Ok(Some((Message::LaserFeedList(m), c)))
+            }
+            LaserFeedFrame::CONTENT_TYPE => {
+                let (m, c) = LaserFeedFrame::read_from_bytes(body)?;
+                Ok(Some((Message::LaserFeedFrame(m), c)))
+            }
+            _ => Ok(None),
         }
     }
 }

@@ -15,7 +15,8 @@ module _ {from : ℕ} {name : Name} {x y z x' y' z' : ℕ} {s o o₁ : List ℕ}
   unfolding lines
   lists-vector e f g a = record { puts = rw (e, f, g) at a }
 
-  pub lists-vector-and : {f : Format} {b : Listed f} {v : View f} {o₂ : List ℕ} {r : ℕ} → x ≡ x' → y ≡ y' → z ≡ z' → Prints from (line name (hex 8 x) ++ (line name (hex 8 y) ++ line name (hex 8 z))) p o q o₁
+  pub lists-vector-and : {f : Format} {b : Listed f} {v : View f} {o₂ : List ℕ} {r : ℕ} → x ≡ x' → y ≡ y' → z ≡ z'
+      → Prints from (line name (hex 8 x) ++ (line name (hex 8 y) ++ line name (hex 8 z))) p o q o₁
       → Lists from b s v q o₁ r o₂ → Lists from (bits name and bits name and bits name and b) s (x', (y', (z', v))) p o r o₂
   unfolding lines
   lists-vector-and e f g a b = record { puts = simp append_assoc at (put_then (rw (e, f, g) at a) b.puts) }

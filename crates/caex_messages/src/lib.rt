@@ -1,79 +1,54 @@
-// The lines of messages of CAEX, put at a place of a listing. Lent output holds it from a character on, as far as it reaches;
+// The lines of a message of CAEX, put at a place of a listing. Lent output holds it from a character on, as far as it reaches;
 // each function answers the place behind its text, or the output's end.
 #![tactic(auto)]
 
-ghost use Rattle.std.specs.Prelude.{◌++◌};
+ghost use Rattle.std.specs.Prelude.{◌++◌, refl};
 ghost use Rattle.std.proofs.Math.Option.{none};
 ghost use Rattle.text.specs.Prints.{Prints};
-ghost use Rattle.protocol.specs.Kind as kind;
 ghost use Rattle.text.specs.Text.{hex, line};
-ghost use Rattle.lines.specs.Lines.{item_lines, Lists};
+ghost use Rattle.protocol.specs.Kind as kind;
+ghost use Rattle.protocol.specs.Kind.{identifier_format, fixture_format, feed_name_format, laser_point_format};
+ghost use Rattle.lines.specs.Lines.{Lists};
+ghost use Rattle.wire.specs.Says.{ucs2_range};
 ghost use Rattle.caex.specs.Says as caex_says;
+ghost use Rattle.caex.specs.Says.{message_kind, message_view};
 ghost use Rattle.caex.specs.Write.{point_value};
 ghost use Rattle.fixture.specs.Says as fixture_says;
+ghost use Rattle.fixture.specs.Says.{identifier_view, fixture_view};
 ghost use Rattle.names.specs.Names as names;
 ghost use Rattle.names.specs.Messages.{message_lines};
 
-use caex::{
-    EnterShow, FeedNames, FeedNamesNext, FixtureList, FixtureRemove, LaserFeedControl,
-    LaserFeedFrame, LaserFeedList, LaserPoint, LaserPoints, LaserPointsNext,
-};
-use fixture::{
-    Fixture, FixtureData, FixtureDataStrings, Fixtures, FixturesNext, Identifier, Identifiers,
-    IdentifiersNext,
-};
+use caex::{FixtureList, LaserFeedControl, LaserFeedFrame, LaserFeedList, LaserPoint, Message};
+use fixture::{Fixture, FixtureData, FixtureDataStrings, Identifier};
 use floats::pattern_of;
-use lines::{put_digits, put_u32_list, put_ucs2};
-use text::{put_chars_line, put_decimal_line, put_hex_line};
+use lines::{ItemLines, put_digits, put_list, put_u32_list, put_ucs2};
+use messages::{MessageLines, put_message};
+use text::{put_decimal_line, put_hex_line};
+use wire::Ucs2;
+
+// How the items of the lists are listed.
+#[derive(Clone, Copy)]
+struct CaexLines;
 
 // ---- identifiers
 
-fn put_identifier(out: &mut [u8], from: u32, at: usize, x: Identifier, body: &[u8]) -> usize
-    ensures { Lists from names.identifier body.now (fixture_says.identifier_view x) at out.old result out.new }
-{
-    let identifier_type = x.identifier_type;
-    let at = put_decimal_line(
-        out,
-        from,
-        at,
-        b"identifier_type",
-        identifier_type.code() as usize,
-    );
-    put_digits(out, from, at, b"data_size", b"data", x.data, body)
-}
+impl ItemLines<Identifier> for CaexLines {
+    ghost form = { (identifier_format, identifier_view) };
 
-fn put_identifier_items(
-    out: &mut [u8],
-    from: u32,
-    at: usize,
-    list: Identifiers,
-    body: &[u8],
-) -> usize
-    ensures { Prints from (item_lines names.identifier body.now list.at list.left) at out.old result out.new }
-{
-    let mut next = at;
-    let mut rest = list;
-    loop {
-        match rest.next(body) {
-            IdentifiersNext::Item(x, more) => {
-                next = put_identifier(out, from, next, x, body);
-                rest = more;
-            }
-            IdentifiersNext::Done => {
-                return next;
-            }
-            IdentifiersNext::Refused(_) => {
-                return next;
-            }
-        }
+    ghost listed = { λ _. names.identifier };
+
+    ghost read_so = { refl };
+
+    fn put(self, out: &mut [u8], from: u32, at: usize, x: Identifier, body: &[u8]) -> usize {
+        let at = put_decimal_line(
+            out,
+            from,
+            at,
+            b"identifier_type",
+            x.identifier_type.code() as usize,
+        );
+        put_digits(out, from, at, b"data_size", b"data", x.data, body)
     }
-}
-
-fn put_identifiers(out: &mut [u8], from: u32, at: usize, list: Identifiers, body: &[u8]) -> usize
-    ensures { Lists from (names.list_of {w = 1} "identifier_count" names.identifier) body.now (list.at, list.left) at out.old result out.new }
-{
-    let at = put_decimal_line(out, from, at, b"identifier_count", list.left as usize);
-    put_identifier_items(out, from, at, list, body)
 }
 
 // ---- the data of a fixture
@@ -111,38 +86,6 @@ fn put_floats(out: &mut [u8], from: u32, at: usize, x: FixtureData, body: &[u8])
     )
 }
 
-// The fields from `circuit` on.
-fn put_from_circuit(
-    out: &mut [u8],
-    from: u32,
-    at: usize,
-    x: FixtureData,
-    strings: FixtureDataStrings,
-    body: &[u8],
-) -> usize
-    ensures { Lists from names.from_circuit body.now (fixture_says.data_view x strings).1.1.1.1.1 at out.old result out.new }
-{
-    let at = put_ucs2(out, from, at, b"circuit", strings.circuit, body);
-    let at = put_ucs2(out, from, at, b"note", strings.note, body);
-    put_floats(out, from, at, x, body)
-}
-
-// The fields from `unit` on.
-fn put_from_unit(
-    out: &mut [u8],
-    from: u32,
-    at: usize,
-    x: FixtureData,
-    strings: FixtureDataStrings,
-    body: &[u8],
-) -> usize
-    ensures { Lists from names.from_unit body.now (fixture_says.data_view x strings).1.1.1 at out.old result out.new }
-{
-    let at = put_ucs2(out, from, at, b"unit", strings.unit, body);
-    let at = put_decimal_line(out, from, at, b"channel", x.channel as usize);
-    put_from_circuit(out, from, at, x, strings, body)
-}
-
 fn put_fixture_data(
     out: &mut [u8],
     from: u32,
@@ -162,160 +105,88 @@ fn put_fixture_data(
         b"universe_channel",
         x.universe_channel as usize,
     );
-    put_from_unit(out, from, at, x, strings, body)
+    let at = put_ucs2(out, from, at, b"unit", strings.unit, body);
+    let at = put_decimal_line(out, from, at, b"channel", x.channel as usize);
+    let at = put_ucs2(out, from, at, b"circuit", strings.circuit, body);
+    let at = put_ucs2(out, from, at, b"note", strings.note, body);
+    put_floats(out, from, at, x, body)
 }
 
 // ---- fixtures
 
-// The fields from `identifier_count` on.
-fn put_from_identifiers(out: &mut [u8], from: u32, at: usize, x: Fixture, body: &[u8]) -> usize
-    ensures { Lists from names.from_identifiers body.now (fixture_says.fixture_view x).1.1.1.1.1.1 at out.old result out.new }
-{
-    let at = put_identifiers(out, from, at, x.identifiers, body);
-    put_fixture_data(out, from, at, x.data, x.data_strings, body)
-}
+impl ItemLines<Fixture> for CaexLines {
+    ghost form = { (fixture_format, fixture_view) };
 
-// The fields from `mode_name` on.
-fn put_from_mode(out: &mut [u8], from: u32, at: usize, x: Fixture, body: &[u8]) -> usize
-    ensures { Lists from names.from_mode body.now (fixture_says.fixture_view x).1.1.1 at out.old result out.new }
-{
-    let at = put_ucs2(out, from, at, b"mode_name", x.mode_name, body);
-    let at = put_decimal_line(out, from, at, b"channel_count", x.channel_count as usize);
-    let at = put_decimal_line(out, from, at, b"is_dimmer", x.is_dimmer as usize);
-    put_from_identifiers(out, from, at, x, body)
-}
+    ghost listed = { λ _. names.fixture };
 
-fn put_fixture(out: &mut [u8], from: u32, at: usize, x: Fixture, body: &[u8]) -> usize
-    ensures { Lists from names.fixture body.now (fixture_says.fixture_view x) at out.old result out.new }
-{
-    let at = put_decimal_line(
-        out,
-        from,
-        at,
-        b"fixture_identifier",
-        x.fixture_identifier as usize,
-    );
-    let at = put_ucs2(
-        out,
-        from,
-        at,
-        b"manufacturer_name",
-        x.manufacturer_name,
-        body,
-    );
-    let at = put_ucs2(out, from, at, b"fixture_name", x.fixture_name, body);
-    put_from_mode(out, from, at, x, body)
-}
+    ghost read_so = { refl };
 
-fn put_fixture_items(out: &mut [u8], from: u32, at: usize, list: Fixtures, body: &[u8]) -> usize
-    ensures { Prints from (item_lines names.fixture body.now list.at list.left) at out.old result out.new }
-{
-    let mut next = at;
-    let mut rest = list;
-    loop {
-        match rest.next(body) {
-            FixturesNext::Item(x, more) => {
-                next = put_fixture(out, from, next, x, body);
-                rest = more;
-            }
-            FixturesNext::Done => {
-                return next;
-            }
-            FixturesNext::Refused(_) => {
-                return next;
-            }
-        }
+    fn put(self, out: &mut [u8], from: u32, at: usize, x: Fixture, body: &[u8]) -> usize {
+        let at = put_decimal_line(
+            out,
+            from,
+            at,
+            b"fixture_identifier",
+            x.fixture_identifier as usize,
+        );
+        let at = put_ucs2(
+            out,
+            from,
+            at,
+            b"manufacturer_name",
+            x.manufacturer_name,
+            body,
+        );
+        let at = put_ucs2(out, from, at, b"fixture_name", x.fixture_name, body);
+        let at = put_ucs2(out, from, at, b"mode_name", x.mode_name, body);
+        let at = put_decimal_line(out, from, at, b"channel_count", x.channel_count as usize);
+        let at = put_decimal_line(out, from, at, b"is_dimmer", x.is_dimmer as usize);
+        let at = put_list(
+            out,
+            from,
+            at,
+            b"identifier_count",
+            x.identifiers,
+            body,
+            CaexLines,
+        );
+        put_fixture_data(out, from, at, x.data, x.data_strings, body)
     }
-}
-
-fn put_fixtures(out: &mut [u8], from: u32, at: usize, list: Fixtures, body: &[u8]) -> usize
-    ensures { Lists from (names.list_of {w = 2} "fixture_count" names.fixture) body.now (list.at, list.left) at out.old result out.new }
-{
-    let at = put_decimal_line(out, from, at, b"fixture_count", list.left as usize);
-    put_fixture_items(out, from, at, list, body)
 }
 
 // ---- laser feeds
 
-fn put_feed_name_items(out: &mut [u8], from: u32, at: usize, list: FeedNames, body: &[u8]) -> usize
-    ensures { Prints from (item_lines names.feed_name body.now list.at list.left)
-        at out.old result out.new }
-{
-    let mut next = at;
-    let mut rest = list;
-    loop {
-        match rest.next(body) {
-            FeedNamesNext::Item(x, more) => {
-                next = put_ucs2(out, from, next, b"feed_names", x, body);
-                rest = more;
-            }
-            FeedNamesNext::Done => {
-                return next;
-            }
-            FeedNamesNext::Refused(_) => {
-                return next;
-            }
-        }
+impl ItemLines<Ucs2> for CaexLines {
+    ghost form = { (feed_name_format, ucs2_range) };
+
+    ghost listed = { λ _. names.feed_name };
+
+    ghost read_so = { refl };
+
+    fn put(self, out: &mut [u8], from: u32, at: usize, x: Ucs2, body: &[u8]) -> usize {
+        put_ucs2(out, from, at, b"feed_names", x, body)
     }
 }
 
-fn put_feed_names(out: &mut [u8], from: u32, at: usize, list: FeedNames, body: &[u8]) -> usize
-    ensures { Lists from (names.list_of {w = 1} "feed_count" names.feed_name) body.now (list.at, list.left)
-        at out.old result out.new }
-{
-    let at = put_decimal_line(out, from, at, b"feed_count", list.left as usize);
-    put_feed_name_items(out, from, at, list, body)
-}
+impl ItemLines<LaserPoint> for CaexLines {
+    ghost form = { (laser_point_format, point_value) };
 
-fn put_laser_point(out: &mut [u8], from: u32, at: usize, x: LaserPoint, body: &[u8]) -> usize
-    ensures { Lists from names.laser_point body.now (point_value x) at out.old result out.new }
-{
-    let at = put_decimal_line(out, from, at, b"x_low_byte", x.x_low_byte as usize);
-    let at = put_decimal_line(out, from, at, b"y_low_byte", x.y_low_byte as usize);
-    let at = put_decimal_line(
-        out,
-        from,
-        at,
-        b"xy_high_nibbles",
-        x.xy_high_nibbles as usize,
-    );
-    put_decimal_line(out, from, at, b"color", x.color as usize)
-}
+    ghost listed = { λ _. names.laser_point };
 
-fn put_laser_point_items(
-    out: &mut [u8],
-    from: u32,
-    at: usize,
-    list: LaserPoints,
-    body: &[u8],
-) -> usize
-    ensures { Prints from (item_lines names.laser_point body.now list.at list.left)
-        at out.old result out.new }
-{
-    let mut next = at;
-    let mut rest = list;
-    loop {
-        match rest.next(body) {
-            LaserPointsNext::Item(x, more) => {
-                next = put_laser_point(out, from, next, x, body);
-                rest = more;
-            }
-            LaserPointsNext::Done => {
-                return next;
-            }
-            LaserPointsNext::Refused(_) => {
-                return next;
-            }
-        }
+    ghost read_so = { refl };
+
+    fn put(self, out: &mut [u8], from: u32, at: usize, x: LaserPoint, body: &[u8]) -> usize {
+        let at = put_decimal_line(out, from, at, b"x_low_byte", x.x_low_byte as usize);
+        let at = put_decimal_line(out, from, at, b"y_low_byte", x.y_low_byte as usize);
+        let at = put_decimal_line(
+            out,
+            from,
+            at,
+            b"xy_high_nibbles",
+            x.xy_high_nibbles as usize,
+        );
+        put_decimal_line(out, from, at, b"color", x.color as usize)
     }
-}
-
-fn put_laser_points(out: &mut [u8], from: u32, at: usize, list: LaserPoints, body: &[u8]) -> usize
-    ensures { Lists from (names.list_of {w = 2} "point_count" names.laser_point) body.now (list.at, list.left)
-        at out.old result out.new }
-{
-    let at = put_decimal_line(out, from, at, b"point_count", list.left as usize);
-    put_laser_point_items(out, from, at, list, body)
 }
 
 fn put_frame(out: &mut [u8], from: u32, at: usize, x: LaserFeedFrame, body: &[u8]) -> usize
@@ -325,89 +196,83 @@ fn put_frame(out: &mut [u8], from: u32, at: usize, x: LaserFeedFrame, body: &[u8
     let at = put_decimal_line(out, from, at, b"source_key", x.source_key as usize);
     let at = put_decimal_line(out, from, at, b"feed_index", x.feed_index as usize);
     let at = put_decimal_line(out, from, at, b"frame_sequence", x.frame_sequence as usize);
-    put_laser_points(out, from, at, x.points, body)
+    put_list(out, from, at, b"point_count", x.points, body, CaexLines)
 }
 
-// ---- kinds
-
-fn put_enter_show(out: &mut [u8], from: u32, at: usize, x: EnterShow, body: &[u8]) -> usize
-    ensures { Prints from (message_lines kind.EnterShow none body.now (caex_says.enter_show_view x)) at out.old result out.new }
-{
-    let at = put_chars_line(out, from, at, b"kind", b"EnterShow");
-    put_ucs2(out, from, at, b"name", x.name, body)
-}
+// ---- messages
 
 fn put_fixture_list(out: &mut [u8], from: u32, at: usize, x: FixtureList, body: &[u8]) -> usize
-    ensures { Prints from (message_lines kind.FixtureList none body.now (caex_says.fixture_list_view x)) at out.old result out.new }
+    ensures { Lists from (names.listed kind.FixtureList) body.now (caex_says.fixture_list_view x) at out.old result out.new }
 {
-    let at = put_chars_line(out, from, at, b"kind", b"FixtureList");
-    let message_type = x.message_type;
-    let at = put_decimal_line(out, from, at, b"message_type", message_type.code() as usize);
-    put_fixtures(out, from, at, x.fixtures, body)
-}
-
-fn put_fixture_remove(out: &mut [u8], from: u32, at: usize, x: FixtureRemove, body: &[u8]) -> usize
-    ensures { Prints from (message_lines kind.FixtureRemove none body.now (caex_says.fixture_remove_view x)) at out.old result out.new }
-{
-    let at = put_chars_line(out, from, at, b"kind", b"FixtureRemove");
-    put_u32_list(
+    let at = put_decimal_line(
         out,
         from,
         at,
-        b"fixture_count",
-        b"fixture_identifiers",
-        x.fixture_identifiers,
-        body,
-    )
+        b"message_type",
+        x.message_type.code() as usize,
+    );
+    put_list(out, from, at, b"fixture_count", x.fixtures, body, CaexLines)
 }
 
-fn put_laser_feed_control(
-    out: &mut [u8],
-    from: u32,
-    at: usize,
-    x: LaserFeedControl,
-    body: &[u8],
-) -> usize
-    ensures { Prints from (message_lines kind.LaserFeedControl none body.now (caex_says.laser_feed_control_view x)) at out.old result out.new }
+fn put_control(out: &mut [u8], from: u32, at: usize, x: LaserFeedControl, body: &[u8]) -> usize
+    ensures { Lists from (names.listed kind.LaserFeedControl) body.now (caex_says.laser_feed_control_view x) at out.old result out.new }
 {
-    let at = put_chars_line(out, from, at, b"kind", b"LaserFeedControl");
     let at = put_decimal_line(out, from, at, b"feed_index", x.feed_index as usize);
     put_decimal_line(out, from, at, b"frame_rate", x.frame_rate as usize)
 }
 
-fn put_laser_feed_list(out: &mut [u8], from: u32, at: usize, x: LaserFeedList, body: &[u8]) -> usize
-    ensures { Prints from (message_lines kind.LaserFeedList none body.now (caex_says.laser_feed_list_view x))
-        at out.old result out.new }
+fn put_feed_list(out: &mut [u8], from: u32, at: usize, x: LaserFeedList, body: &[u8]) -> usize
+    ensures { Lists from (names.listed kind.LaserFeedList) body.now (caex_says.laser_feed_list_view x) at out.old result out.new }
 {
-    let at = put_chars_line(out, from, at, b"kind", b"LaserFeedList");
     let at = put_decimal_line(out, from, at, b"source_key", x.source_key as usize);
-    put_feed_names(out, from, at, x.feed_names, body)
+    put_list(out, from, at, b"feed_count", x.feed_names, body, CaexLines)
 }
 
-fn put_laser_feed_frame(
-    out: &mut [u8],
-    from: u32,
-    at: usize,
-    x: LaserFeedFrame,
-    body: &[u8],
-) -> usize
-    ensures { Prints from (message_lines kind.LaserFeedFrame none body.now (caex_says.laser_feed_frame_view x))
-        at out.old result out.new }
-{
-    let at = put_chars_line(out, from, at, b"kind", b"LaserFeedFrame");
-    put_frame(out, from, at, x, body)
+// A message by its lines.
+#[derive(Clone, Copy)]
+struct Listed {
+    m: Message,
+}
+
+impl MessageLines for Listed {
+    ghost kind = { λ x. message_kind x.m };
+
+    ghost view = { λ x. message_view x.m };
+
+    fn name(self) -> &'static [u8] {
+        match self.m {
+            Message::EnterShow(_) => b"EnterShow",
+            Message::FixtureList(_) => b"FixtureList",
+            Message::FixtureRemove(_) => b"FixtureRemove",
+            Message::LaserFeedControl(_) => b"LaserFeedControl",
+            Message::LaserFeedList(_) => b"LaserFeedList",
+            Message::LaserFeedFrame(_) => b"LaserFeedFrame",
+        }
+    }
+
+    fn put_fields(self, out: &mut [u8], from: u32, at: usize, body: &[u8]) -> usize {
+        match self.m {
+            Message::EnterShow(x) => put_ucs2(out, from, at, b"name", x.name, body),
+            Message::FixtureList(x) => put_fixture_list(out, from, at, x, body),
+            Message::FixtureRemove(x) => put_u32_list(
+                out,
+                from,
+                at,
+                b"fixture_count",
+                b"fixture_identifiers",
+                x.fixture_identifiers,
+                body,
+            ),
+            Message::LaserFeedControl(x) => put_control(out, from, at, x, body),
+            Message::LaserFeedList(x) => put_feed_list(out, from, at, x, body),
+            Message::LaserFeedFrame(x) => put_frame(out, from, at, x, body),
+        }
+    }
 }
 
 // A message of CAEX.
-pub fn put_caex(out: &mut [u8], from: u32, at: usize, m: caex::Message, body: &[u8]) -> usize
-    ensures { Prints from (message_lines (caex_says.message_kind m) none body.now (caex_says.message_view m)) at out.old result out.new }
+pub fn put_caex(out: &mut [u8], from: u32, at: usize, m: Message, body: &[u8]) -> usize
+    ensures { Prints from (message_lines (message_kind m) none body.now (message_view m)) at out.old result out.new }
 {
-    match m {
-        caex::Message::EnterShow(x) => put_enter_show(out, from, at, x, body),
-        caex::Message::FixtureList(x) => put_fixture_list(out, from, at, x, body),
-        caex::Message::FixtureRemove(x) => put_fixture_remove(out, from, at, x, body),
-        caex::Message::LaserFeedControl(x) => put_laser_feed_control(out, from, at, x, body),
-        caex::Message::LaserFeedList(x) => put_laser_feed_list(out, from, at, x, body),
-        caex::Message::LaserFeedFrame(x) => put_laser_feed_frame(out, from, at, x, body),
-    }
+    put_message(out, from, at, Listed { m }, body)
 }

@@ -10,15 +10,12 @@ use borrow.Author.Rules as kit
 use lib.ListN.{length, set}
 use lib.Seq.{sets, length-sets}
 use Rattle.format.specs.Walk.{stop, report}
-use Rattle.format.proofs.Chain.{met}
 use Rattle.protocol.specs.Kind.{Kind}
 use Rattle.protocol.specs.Step.{step_at}
 use Rattle.protocol.proofs.Steps.{moved}
-use Rattle.citp.specs.Says.{report_says, packet_says, step_says}
+use Rattle.citp.specs.Says.{report_says, packet_says}
 use Rattle.citp.specs.declared.Cursor.{Cursor}
 use Rattle.citp.specs.declared.PacketReport.{PacketReport}
-use Rattle.citp.specs.declared.Step as declared
-use Rattle.citp.specs.declared.Step.TheVariants as step
 use Rattle.supporting.specs.Offsets.{is_message_of, offsets_of, stop_of}
 use Rattle.supporting.proofs.Offsets.{offsets_from, offsets-start, offsets-stop, offsets-pass, offsets-take, stop_from, stop-start, stop-report, stop-stop}
 
@@ -45,50 +42,44 @@ pub walking-length : {test : Kind → Bool} {s : List ℕ} {at n : ℕ} {before 
 walking-length {test} {s} {at} {n} {before} {after} w =
     sym (length-sets after n (offsets_from test s at)) ∙ sym (ap length w.holds) ∙ length-sets before 0 (offsets_of test s)
 
-module _ (test : Kind → Bool) (s : List ℕ) (x : declared.Step) (c : Cursor) (t : step_says x ≡ step_at s c.at) where
-  module _ (y : PacketReport) (d : Cursor) (i : x ≡ step.Packet y d) where
-    steps : step_at s c.at ≡ report (packet_says y) d.at
-    steps = met step_says t i
-
+module _ (test : Kind → Bool) (s : List ℕ) (c : Cursor) where
+  module _ (y : PacketReport) (d : Cursor) (i : report (packet_says y) d.at ≡ step_at s c.at) where
     pub walking-less : length s - d.at < length s - c.at
-    walking-less = let m = moved s c.at steps in omega (arith, m.on, m.within)
+    walking-less = let m = moved s c.at (sym i) in omega (arith, m.on, m.within)
 
     module _ (n : ℕ) (before after : List ℕ) (w : Walking test s c.at n before after) (b : Bool) (h : b ≡ is_message_of test (report_says y.report)) where
       pub walking-pass : b ≡ false → Walking test s d.at n before after
       walking-pass f =
-          let m = moved s c.at steps in
-          let e = offsets-pass test s c.at steps (sym h ∙ f) in
+          let m = moved s c.at (sym i) in
+          let e = offsets-pass test s c.at (sym i) (sym h ∙ f) in
           record {
             few = omega (arith, w.few, m.on);
             within = m.within;
             counts = w.counts ∙ rw e refl;
             holds = w.holds ∙ rw e refl;
-            stops = w.stops ∙ stop-report s c.at steps;
+            stops = w.stops ∙ stop-report s c.at (sym i);
           }
 
       pub walking-take : b ≡ true → (stored : List ℕ) → stored ≡ set after n y.offset → Walking test s d.at (n + 1) before stored
       walking-take f stored g =
-          let m = moved s c.at steps in
-          let e = offsets-take test s c.at steps (sym h ∙ f) in
+          let m = moved s c.at (sym i) in
+          let e = offsets-take test s c.at (sym i) (sym h ∙ f) in
           record {
             few = omega (arith, w.few, m.on);
             within = m.within;
             counts = let k = w.counts ∙ ap (λ (xs : List ℕ). n + length xs) e in omega (arith, k);
             holds = w.holds ∙ rw (e, g, add-one) refl;
-            stops = w.stops ∙ stop-report s c.at steps;
+            stops = w.stops ∙ stop-report s c.at (sym i);
           }
 
-  module _ (number offset : ℕ) (i : x ≡ step.End number offset) (n : ℕ) (before after : List ℕ) (w : Walking test s c.at n before after) where
-    stopped : step_at s c.at ≡ stop number offset
-    stopped = met step_says t i
-
+  module _ (number : ℕ) (i : stop number c.at ≡ step_at s c.at) (n : ℕ) (before after : List ℕ) (w : Walking test s c.at n before after) where
     pub walking-count : n ≡ length (offsets_of test s)
-    walking-count = sym (w.counts ∙ rw (offsets-stop test s c.at stopped, add-zero) refl)
+    walking-count = sym (w.counts ∙ rw (offsets-stop test s c.at (sym i), add-zero) refl)
 
     pub walking-end : number ≡ stop_of s
-    walking-end = sym (w.stops ∙ stop-stop s c.at stopped)
+    walking-end = sym (w.stops ∙ stop-stop s c.at (sym i))
 
     pub walking-all : after ≡ sets before 0 (offsets_of test s)
-    walking-all = sym (w.holds ∙ rw (offsets-stop test s c.at stopped) refl)
+    walking-all = sym (w.holds ∙ rw (offsets-stop test s c.at (sym i)) refl)
 
-pub ruleset walks = (kit.rules, walking_start, walking-length, walking-less, walking-pass, walking-take, walking-count, walking-end, walking-all)
+pub ruleset walks = (kit.rules, walking_start, walking-length, walking-less, walking-count, walking-end, walking-all)

@@ -2,6 +2,7 @@
 use Rattle.std.proofs.Common.{◌≡◌, ℕ, ◌+◌, ◌-◌, ◌*◌, ◌^◌, ◌<◌, ◌≤◌, min, Bool, true, false, not, ◌&&◌, ◌||◌, eqb, ltb, leb, ◌⊎◌, List, [], ◌∷◌, length, get_or, take, set, sym, refl, ap, ◌∙◌, ap₂, inl, inr, arith, ltb-false, ltb-true, le-ltb, lt-ltb, eq-eqb, eqb-true, le-leb, leb-false, leb-true}
 use mathlib.Core.Bool.{or-false, or_assoc, and-false}
 use lib.Bits.{bit_or}
+use Rattle.std.specs.Prelude.{Some, None}
 use borrow.Author.Tests.{lt-leb}
 use Rattle.format.specs.Fault.{any}
 use Rattle.patching.specs.Bits.{pack, packs}
@@ -66,30 +67,29 @@ module _ (xs : List Entry) (i u : ℕ) (h : i < length xs) where
   one_more c = any-passed (holds u c) xs i 0 h
 
   -- none of its channels is one of the 512
-  pub none-marked : (r : ℕ) → Offset x u r → 512 ≤ r → universe_words p ≡ universe_words goal
-  none-marked r o l =
+  pub none-marked : Offset x u None → universe_words p ≡ universe_words goal
+  none-marked o =
       packs-ext-in p goal 0 8
       (λ c a b. sym (one_more c ∙ ap (λ (t : Bool). p c || t) (none c (omega arith) (eqb (universe x) u) refl) ∙ or-false (p c)))
     where
       none : (c : ℕ) → c < 512 → (t : Bool) → eqb (universe x) u ≡ t → holds u c x ≡ false
       none c b false e = ap (λ (t : Bool). t && (leb (channel x) c && ltb c (end x))) e
       none c b true e =
-          let m : 512 ≤ channel x = o.outside l (eqb-true (universe x) u e) in
+          let m : 512 ≤ channel x = o (eqb-true (universe x) u e) in
           ap (λ (t : Bool). t && (leb (channel x) c && ltb c (end x))) e ∙ no_span (channel x) (end x) c (inl (omega arith))
 
   -- its channels from r to below m are marked, as far as the 512 go
-  pub all-marked : (r m : ℕ) → Offset x u r → r < 512 → min (r + channel_count x) 512 ≤ m → m ≤ r + channel_count x
+  pub all-marked : (r m : ℕ) → Offset x u (Some r) → min (r + channel_count x) 512 ≤ m → m ≤ r + channel_count x
       → universe_words (λ c. p c || (leb r c && ltb c m)) ≡ universe_words goal
-  all-marked r m o l a b =
+  all-marked r m o a b =
       packs-ext-in (λ c. p c || (leb r c && ltb c m)) goal 0 8
       (λ c s t. ap (λ (y : Bool). p c || y) (held_by c (omega arith)) ∙ sym (one_more c))
     where
       held_by : (c : ℕ) → c < 512 → (leb r c && ltb c m) ≡ holds u c x
       held_by c d =
-          let i = o.inside l in
-          let n : channel x ≡ r = i.1 in
+          let n : channel x ≡ r = o.2 in
           ap₂ (λ (s t : Bool). s && t) (ap (λ (z : ℕ). leb z c) (sym n)) (same_test c m c (end x) (λ h. omega arith) (λ h. omega arith))
-          ∙ sym (ap (λ (t : Bool). t && (leb (channel x) c && ltb c (end x))) (eq-eqb (universe x) u i.0))
+          ∙ sym (ap (λ (t : Bool). t && (leb (channel x) c && ltb c (end x))) (eq-eqb (universe x) u o.1))
 
 -- a span and the next
 pub longer : (p : ℕ → Bool) (a m n : ℕ) → a ≤ m → m ≤ n

@@ -1,9 +1,9 @@
 -- The answer for a universe's first free channel, if any.
-use Rattle.std.specs.Prelude.{ℕ}
-use Rattle.std.proofs.Math.Option.{Option, none, some}
-use Rattle.channels.specs.declared.FirstFree.{FirstFree}
-use Rattle.channels.specs.declared.FirstFree.TheVariants.{Channel, NoneFree}
+use Rattle.std.specs.Prelude.{ℕ, Option, Some, None}
+use Rattle.std.proofs.Math.Option.{none, some}
+use Rattle.std.proofs.Math.Option as math
 
-abbrev pub free_of : Option ℕ → FirstFree
-free_of (some c) = Channel c
-free_of none = NoneFree
+-- the channel, or none
+abbrev pub free_of : math.Option ℕ → Option ℕ
+free_of (some c) = Some c
+free_of none = None

@@ -1,46 +1,40 @@
 -- What the answers of the parts of a packet tell of it: the layer, the layer header, the body.
-use Prim.Native.Nat.{ℕ, ◌+◌, ◌-◌, ◌≤◌, ◌<◌}
+use Prim.Native.Nat.{ℕ, ◌+◌, ◌-◌, ◌≤◌}
 use mathlib.Core.Path.{◌≡◌, refl, ap, ◌∙◌}
 use mathlib.Core.Bool.{Bool, true, false}
 use mathlib.Core.List.{List}
-use mathlib.Core.Option.{some}
+use mathlib.Core.Option as math
 use native.Mathlib.Nat.{add-zero}
 use native.Mathlib.Omega.{arith}
-use borrow.Author.Tests.{lt-ltb, le-ltb}
+use borrow.Author.Tests.{le-ltb}
 use lib.ListN.{length, take, drop, length-drop}
 use lib.Seq.{take_all}
 use Rattle.format.specs.Format.{number, Value, Read, got, refused, decode_number, decode, size}
 use Rattle.format.specs.View.{View, Seen, seen, missed, view, placed, place}
 use Rattle.format.proofs.Views.{after, view-pair}
-use Rattle.protocol.specs.Layer.{Layer, cookie, header_length, has_hint, hint_length, hinted, layer_header}
+use Rattle.std.specs.Prelude.{Ok, Option, Some, None}
+use Rattle.std.specs.Option.{MatchOption, IsSomeAnd}
+use Rattle.protocol.specs.Layer.{Layer, cookie, header_length, has_hint, hint_length, layer_header}
 use Rattle.protocol.specs.Kind.{Kind, body_of}
-use Rattle.protocol.specs.Step.{Content, message, unknown, refusal, Body, known, unread, refused_with, content_of, read_body, read_layer_header, read_layer}
-use Rattle.citp.specs.Says.{content_in}
-use Rattle.citp.specs.declared.LayerHeader.{LayerHeader}
+use Rattle.protocol.specs.Step.{Content, refusal, Body, known, content_of, read_body, read_layer_header, read_layer}
+use Rattle.wire.specs.declared.Cursor.{Cursor}
+use Rattle.wire.specs.Says.{message_says}
+use Rattle.citp.specs.Says.{message_kind, message_view}
+use Rattle.citp.specs.declared.Message.{Message}
 
 -- ---- a body, by its layer
 
-module _ (l : Layer) (start extent type hint : ℕ) {b : Body View} where
-  pub told-message : {k : Kind} {v : View (body_of k)} {e s n : ℕ} → b ≡ known k v e → s ≡ start → n ≡ extent - e
-      → message k s (hinted l hint) v n ≡ content_of l start extent type hint b
-  told-message p q r = rw (p, q, r)
+-- a message of a layer, if one was read, as one of any
+abbrev pub As : {M : Type 0} → (M → Message) → Option (M × Cursor) → Option (Message × Cursor) → Type 0
+As of o r = MatchOption o (r ≡ None) (λ x. IsSomeAnd r (λ y. y ≡ (of x.0, x.1)))
 
-  pub told-unknown : b ≡ unread → unknown (cookie l) (some type) ≡ content_of l start extent type hint b
-  told-unknown p = rw p
-
-  pub told-refusal : {n : ℕ} → b ≡ refused_with n → refusal n ≡ content_of l start extent type hint b
-  told-refusal p = rw p
-
--- where a layer has no hint, it makes no difference
-no-hint : (l : Layer) → has_hint l ≡ false → (start extent type hint : ℕ) (b : Body View)
-    → content_of l start extent type 0 b ≡ content_of l start extent type hint b
-no-hint l e start extent type hint (known k v taken) = rw e
-no-hint l e start extent type hint unread = refl
-no-hint l e start extent type hint (refused_with n) = refl
-
-pub without-hint : (l : Layer) → has_hint l ≡ false → (h : LayerHeader) (end : ℕ) (s : List ℕ)
-    → content_of l (end - length s) (length s) h.content_type 0 (read_body l h.content_type s) ≡ content_in l h end s
-without-hint l e h end s = no-hint l e (end - length s) (length s) h.content_type h.content_hint (read_body l h.content_type s)
+module _ {M : Type 0} (kind : M → Kind) (view : (m : M) → View (body_of (kind m))) (of : M → Message)
+    (same : (m : M) (e : ℕ) → ◌≡◌ {A = Body View} (known (message_kind (of m)) (message_view (of m)) e) (known (kind m) (view m) e)) where
+  pub read-as : (o : Option (M × Cursor)) (r : Option (Message × Cursor)) {b : Body View} → As of o r
+      → message_says kind view (Ok o) ≡ b → message_says message_kind message_view (Ok r) ≡ b
+  read-as None r e h = rw e h
+  read-as (Some x) None e h = absurd e
+  read-as (Some x) (Some y) e h = rw e (same x.0 x.1.at ∙ h)
 
 -- ---- the layer header
 
@@ -74,10 +68,8 @@ value_in d (seen v e) = v
 value_in d (missed k) = d
 
 module _ (l : Layer) (end : ℕ) (p : List ℕ) where
-  pub layer-short : length p < header_length l → refusal 6 ≡ read_layer (end - length p) (cookie l) p (some l)
-  layer-short h = rw (lt-ltb (length p) (header_length l) h)
-
-  pub layer-unread : {k : ℕ} → header_length l ≤ length p → view (layer_header l) p 20 ≡ missed k → refusal 6 ≡ read_layer (end - length p) (cookie l) p (some l)
+  pub layer-unread : {k : ℕ} → header_length l ≤ length p → view (layer_header l) p 20 ≡ missed k
+      → refusal 6 ≡ read_layer (end - length p) (cookie l) p (math.some l)
   unfolding view placed
   layer-unread {k} h e = rw (le-ltb (length p) (header_length l) h) (by (decode (layer_header l) (drop 20 p)) e)
     where
@@ -88,7 +80,7 @@ module _ (l : Layer) (end : ℕ) (p : List ℕ) where
   -- the body is the packet from its headers' end on
   pub layer-read : {x : Content View} {t : ℕ × ℕ} {e n : ℕ} → n ≡ header_length l → n ≤ length p → length p ≤ end → view (layer_header l) p 20 ≡ seen t e
       → (let b = take (length p - n) (drop n p) in x ≡ content_of l (end - length b) (length b) t.0 t.1 (read_body l t.0 b))
-      → x ≡ read_layer (end - length p) (cookie l) p (some l)
+      → x ≡ read_layer (end - length p) (cookie l) p (math.some l)
   unfolding view placed place
   layer-read {x} {t} {e} {n} z h m q is = is ∙ rw (from-part, z, le-ltb (length p) (header_length l) (rw z at h)) (by (decode (layer_header l) (drop 20 p)) q)
     where

@@ -5,7 +5,7 @@ use mathlib.Core.Bool.{Bool, true, false}
 use mathlib.Core.List.{List}
 use native.Mathlib.Omega.{arith}
 use borrow.Author.Tests.{ne_eqb, le-ltb}
-use lib.ListN.{length, take, drop, length-take, length-drop, drop_of_length-le}
+use lib.ListN.{length, take, drop, length-drop, drop_of_length-le}
 use lib.Seq.{take_all, length-take-le}
 use lib.Dec.{ltb}
 use Rattle.format.specs.Format.{Value, Read, got, refused, pick, decode}
@@ -65,13 +65,6 @@ module _ (s : List ℕ) (at : ℕ) where
       on : (n : ℕ) → (n ≡ 0 → ⊥) → stop n at ≡ started at (drop at s) h n
       on zero z = absurd (z refl)
       on (suc n) z = refl
-
-  -- the packet is there whole
-  pub packet-whole : (h : Value header) {n : ℕ} → n ≡ start_number h (length left) → n ≡ 0 → size_field h ≤ length left
-  packet-whole h m z = (starts h (length left) (sym m ∙ z)).within
-
-  pub packet-before : (h : Value header) {p : List ℕ} → p ≡ take (size_field h) left → length p ≤ at + size_field h
-  packet-before h c = rw (c, length-take) (omega arith)
 
   pub step-packet : {h : Value header} {e n end : ℕ} {p : List ℕ} {x : Content View} → view header left 0 ≡ seen h e → n ≡ start_number h (length left) → n ≡ 0
       → end ≡ at + size_field h → p ≡ take (size_field h) left → x ≡ content_at (end - length p) h p

@@ -1,7 +1,7 @@
 -- What the walk's answers say.
-use Rattle.std.specs.Prelude.{ℕ, ◌-◌, List, length, take, drop}
-use Rattle.std.proofs.Math.Option.{Option, none, some}
-use Rattle.format.specs.View.{View, Seen, seen, missed}
+use Rattle.std.specs.Prelude.{ℕ, ◌-◌, List, length, take, drop, Result, Ok, Err, Option, Some, None}
+use Rattle.std.proofs.Math.Option as math
+use Rattle.format.specs.View.{View}
 use Rattle.format.specs.Walk.{stop, report}
 use Rattle.format.specs.Walk as walk
 use Rattle.protocol.specs.Layer as layer
@@ -13,24 +13,24 @@ use Rattle.fptc.specs.Says as fptc
 use Rattle.fsel.specs.Says as fsel
 use Rattle.finf.specs.Says as finf
 use Rattle.caex.specs.Says as caex
+use Rattle.refusal.specs.Number.{number}
+use Rattle.refusal.specs.declared.Refusal.{Refusal}
 use Rattle.citp.specs.declared.LayerHeader.{LayerHeader}
-use Rattle.citp.specs.declared.LayerHeaderRead.{LayerHeaderRead}
-use Rattle.citp.specs.declared.LayerHeaderRead.TheVariants as layer-header
 use Rattle.citp.specs.declared.Message.{Message}
 use Rattle.citp.specs.declared.Report.{Report}
 use Rattle.citp.specs.declared.PacketReport.{PacketReport}
-use Rattle.citp.specs.declared.Step.{Step}
+use Rattle.citp.specs.declared.Cursor.{Cursor}
 use Rattle.citp.specs.declared.Message.TheVariants as message
 use Rattle.citp.specs.declared.Report.TheVariants as content
-use Rattle.citp.specs.declared.Step.TheVariants as step
 
-abbrev pub layer_header_says : LayerHeaderRead → Seen (ℕ × ℕ)
-layer_header_says (layer-header.Read h c) = seen (h.content_type, h.content_hint) c.at
-layer_header_says layer-header.Short = missed 7
+-- a layer header's fields
+abbrev pub layer_header_value : LayerHeader → ℕ × ℕ
+layer_header_value h = (h.content_type, h.content_hint)
 
 -- a body of a layer that ends at an offset of the stream
 abbrev pub content_in : layer.Layer → LayerHeader → ℕ → List ℕ → spec.Content View
-content_in l h end body = spec.content_of l (end - length body) (length body) h.content_type h.content_hint (spec.read_body l h.content_type body)
+content_in l h end body =
+    spec.content_of l (end - length body) (length body) h.content_type h.content_hint (spec.read_body l h.content_type body)
 
 -- a message's kind, its fields and its content hint
 abbrev pub message_kind : Message → kind.Kind
@@ -49,27 +49,29 @@ message_view (message.Fsel m) = fsel.message_view m
 message_view (message.Finf m) = finf.message_view m
 message_view (message.Caex m) = caex.message_view m
 
-abbrev pub message_hint : Message → Option ℕ
-message_hint (message.Pinf m) = none
-message_hint (message.Sdmx m) = none
-message_hint (message.Fptc m hint) = some hint
-message_hint (message.Fsel m) = none
-message_hint (message.Finf m) = none
-message_hint (message.Caex m) = none
+abbrev pub message_hint : Message → math.Option ℕ
+message_hint (message.Pinf m) = math.none
+message_hint (message.Sdmx m) = math.none
+message_hint (message.Fptc m hint) = math.some hint
+message_hint (message.Fsel m) = math.none
+message_hint (message.Finf m) = math.none
+message_hint (message.Caex m) = math.none
 
 abbrev pub report_says : Report → spec.Content View
 report_says (content.Message m start added) = spec.message (message_kind m) start (message_hint m) (message_view m) added
-report_says (content.UnknownLayer c) = spec.unknown c none
-report_says (content.UnknownKind c type) = spec.unknown c (some type)
+report_says (content.UnknownLayer c) = spec.unknown c math.none
+report_says (content.UnknownKind c type) = spec.unknown c (math.some type)
 report_says (content.Fragment part count) = spec.fragment part count
-report_says (content.Refused n) = spec.refusal n
+report_says (content.Refused r) = spec.refusal (number r)
 
 abbrev pub packet_says : PacketReport → spec.Report View
 packet_says r = record { offset = r.offset; size = r.size; request = r.request_index; content = report_says r.report }
 
-abbrev pub step_says : Step → walk.Step (spec.Report View)
-step_says (step.Packet r c) = report (packet_says r) c.at
-step_says (step.End n at) = stop n at
+-- a step at an offset: the walk ends there where no packet is reported
+abbrev pub step_says : (at : ℕ) → Result (Option (PacketReport × Cursor)) Refusal → walk.Step (spec.Report View)
+step_says at (Ok (Some x)) = report (packet_says x.0) x.1.at
+step_says at (Ok None) = stop 0 at
+step_says at (Err r) = stop (number r) at
 
 -- where the body of a message stands in the stream, and its length with added bytes; of other reports nothing
 abbrev pub body_place : ℕ → spec.Content View → ℕ × ℕ

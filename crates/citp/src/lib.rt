@@ -1,27 +1,30 @@
 // The walk over a stream of packets: one step, its report, and the body that a report speaks of.
 #![tactic(auto)]
 
-ghost use Rattle.std.specs.Prelude.{◌≡◌, ◌-◌, ◌+◌, ◌≤◌, length, take};
-ghost use Rattle.protocol.specs.Layer as layer;
-ghost use Rattle.protocol.specs.Kind.{layer as layerOfKind};
-ghost use Rattle.protocol.specs.Layer.{cookie, header_length, layer_header};
+ghost use Rattle.std.specs.Prelude.{◌≡◌, ◌-◌, ◌≤◌, length, take, IfOk, IfSome};
+ghost use Rattle.protocol.specs.Kind.{layer as layer_of_kind};
+ghost use Rattle.protocol.specs.Layer.{cookie, header_length, hinted, layer_header};
 ghost use Rattle.format.specs.View.{view};
 ghost use Rattle.std.proofs.Math.Option.{some};
-ghost use Rattle.protocol.specs.Step.{read_body, content_of, read_layer, content_at, start_number, step_at};
+ghost use Rattle.protocol.specs.Step.{read_body, read_layer, content_at, start_number, step_at};
 ghost use Rattle.header.specs.Says.{header_value};
 ghost use Rattle.layers.specs.Says.{layer_is};
-ghost use Rattle.citp.specs.Says.{layer_header_says, content_in, message_kind, report_says, packet_says, step_says, body_place, body_of_report};
+ghost use Rattle.refusal.specs.Says.{number_says};
+ghost use Rattle.wire.specs.Says.{says, message_says};
+ghost use Rattle.citp.specs.Says.{layer_header_value, content_in, message_kind, message_view, message_hint};
+ghost use Rattle.citp.specs.Says.{report_says, packet_says, step_says, body_place, body_of_report};
 
 use caex::Caex;
 use finf::Finf;
 use fptc::Fptc;
 use fsel::Fsel;
-use header::{Header, HeaderRead};
-use layers::{Layer, LayerFound};
+use header::Header;
+use layers::Layer;
 use pinf::Pinf;
 use put::LIMIT;
+use refusal::Refusal;
 use sdmx::Sdmx;
-use wire::{Block, U32Read};
+use wire::Block;
 
 // ---- reports
 
@@ -47,8 +50,8 @@ pub enum Report {
     UnknownKind(u32, u32),
     // its part and the count of parts
     Fragment(u16, u16),
-    // 6 to 10, or 19
-    Refused(u8),
+    // of its layer header or its body
+    Refused(Refusal),
 }
 
 // A packet's offset in the stream, its size, its request_index and what it holds.
@@ -66,115 +69,6 @@ pub struct Cursor {
     pub at: usize,
 }
 
-// A report and the cursor of the next packet; or the end, its number, 0 at the stream's end, and its offset.
-#[derive(Clone, Copy)]
-pub enum Step {
-    Packet(PacketReport, Cursor),
-    End(u8, usize),
-}
-
-// ---- one packet, cut out of the stream
-
-// a - b, at least 0.
-fn less(a: usize, b: usize) -> usize
-    ensures { result ≡ a - b }
-{
-    if a < b {
-        return 0;
-    }
-    a - b
-}
-
-// A body of PINF that ends at an offset of the stream.
-fn pinf_report(content_type: u32, end: usize, body: &[u8]) -> Report
-    ensures { report_says result ≡ content_of layer.PINF (end - length body.now) (length body.now) content_type 0 (read_body layer.PINF content_type body.now) }
-{
-    match pinf::Message::read_from_bytes(content_type, body) {
-        pinf::MessageRead::Read(m, c) => Report::Message(
-            Message::Pinf(m),
-            less(end, body.len()),
-            less(body.len(), c.at),
-        ),
-        pinf::MessageRead::Unknown => Report::UnknownKind(Pinf::COOKIE, content_type),
-        pinf::MessageRead::Refused(n) => Report::Refused(n),
-    }
-}
-
-// A body of SDMX that ends at an offset of the stream.
-fn sdmx_report(content_type: u32, end: usize, body: &[u8]) -> Report
-    ensures { report_says result ≡ content_of layer.SDMX (end - length body.now) (length body.now) content_type 0 (read_body layer.SDMX content_type body.now) }
-{
-    match sdmx::Message::read_from_bytes(content_type, body) {
-        sdmx::MessageRead::Read(m, c) => Report::Message(
-            Message::Sdmx(m),
-            less(end, body.len()),
-            less(body.len(), c.at),
-        ),
-        sdmx::MessageRead::Unknown => Report::UnknownKind(Sdmx::COOKIE, content_type),
-        sdmx::MessageRead::Refused(n) => Report::Refused(n),
-    }
-}
-
-// A body of FPTC that ends at an offset of the stream.
-fn fptc_report(content_type: u32, content_hint: u32, end: usize, body: &[u8]) -> Report
-    ensures { report_says result ≡ content_of layer.FPTC (end - length body.now) (length body.now) content_type content_hint (read_body layer.FPTC content_type body.now) }
-{
-    match fptc::Message::read_from_bytes(content_type, body) {
-        fptc::MessageRead::Read(m, c) => Report::Message(
-            Message::Fptc(m, content_hint),
-            less(end, body.len()),
-            less(body.len(), c.at),
-        ),
-        fptc::MessageRead::Unknown => Report::UnknownKind(Fptc::COOKIE, content_type),
-        fptc::MessageRead::Refused(n) => Report::Refused(n),
-    }
-}
-
-// A body of FSEL that ends at an offset of the stream.
-fn fsel_report(content_type: u32, end: usize, body: &[u8]) -> Report
-    ensures { report_says result ≡ content_of layer.FSEL (end - length body.now) (length body.now) content_type 0 (read_body layer.FSEL content_type body.now) }
-{
-    match fsel::Message::read_from_bytes(content_type, body) {
-        fsel::MessageRead::Read(m, c) => Report::Message(
-            Message::Fsel(m),
-            less(end, body.len()),
-            less(body.len(), c.at),
-        ),
-        fsel::MessageRead::Unknown => Report::UnknownKind(Fsel::COOKIE, content_type),
-        fsel::MessageRead::Refused(n) => Report::Refused(n),
-    }
-}
-
-// A body of FINF that ends at an offset of the stream.
-fn finf_report(content_type: u32, end: usize, body: &[u8]) -> Report
-    ensures { report_says result ≡ content_of layer.FINF (end - length body.now) (length body.now) content_type 0 (read_body layer.FINF content_type body.now) }
-{
-    match finf::Message::read_from_bytes(content_type, body) {
-        finf::MessageRead::Read(m, c) => Report::Message(
-            Message::Finf(m),
-            less(end, body.len()),
-            less(body.len(), c.at),
-        ),
-        finf::MessageRead::Unknown => Report::UnknownKind(Finf::COOKIE, content_type),
-        finf::MessageRead::Refused(n) => Report::Refused(n),
-    }
-}
-
-// A body of CAEX that ends at an offset of the stream.
-fn caex_report(content_type: u32, end: usize, body: &[u8]) -> Report
-    ensures { report_says result ≡ content_of layer.CAEX (end - length body.now) (length body.now) content_type 0 (read_body layer.CAEX content_type body.now) }
-{
-    match caex::Message::read_from_bytes(content_type, body) {
-        caex::MessageRead::Read(m, c) => Report::Message(
-            Message::Caex(m),
-            less(end, body.len()),
-            less(body.len(), c.at),
-        ),
-        caex::MessageRead::Unknown => Report::UnknownKind(Caex::COOKIE, content_type),
-        caex::MessageRead::Refused(n) => Report::Refused(n),
-    }
-}
-
 // ---- the layer header
 
 #[derive(Clone, Copy)]
@@ -184,53 +78,83 @@ struct LayerHeader {
     content_hint: u32,
 }
 
-#[derive(Clone, Copy)]
-enum LayerHeaderRead {
-    Read(LayerHeader, wire::Cursor),
-    Short,
-}
-
-fn layer_header(layer: Layer, packet: &[u8]) -> LayerHeaderRead
-    ensures { layer_header_says result ≡ view (layer_header (layer_is layer)) packet.now 20 }
+fn layer_header(layer: Layer, packet: &[u8]) -> Result<(LayerHeader, wire::Cursor), Refusal>
+    ensures { says layer_header_value result ≡ view (layer_header (layer_is layer)) packet.now 20 }
 {
     let c = wire::Cursor { at: Header::LENGTH };
-    let U32Read::Read(content_type, c) = c.u32(packet) else {
-        return LayerHeaderRead::Short;
-    };
+    let (content_type, c) = c.u32(packet)?;
     if !layer.has_hint() {
-        return LayerHeaderRead::Read(
+        return Ok((
             LayerHeader {
                 content_type,
                 content_hint: 0,
             },
             c,
-        );
+        ));
     }
-    let U32Read::Read(content_hint, c) = c.u32(packet) else {
-        return LayerHeaderRead::Short;
-    };
-    LayerHeaderRead::Read(
+    let (content_hint, c) = c.u32(packet)?;
+    Ok((
         LayerHeader {
             content_type,
             content_hint,
         },
         c,
-    )
+    ))
 }
 
 // ---- one packet, cut out of the stream, which ends at an offset of it
 
+impl Message {
+    // The body of a packet of a layer; none where its content type is of no kind that is read.
+    fn read_from_bytes(
+        layer: Layer,
+        h: LayerHeader,
+        body: &[u8],
+    ) -> Result<Option<(Message, wire::Cursor)>, Refusal>
+        ensures fields { message_says message_kind message_view result ≡ read_body (layer_is layer) h.content_type body.now }
+        ensures hint { IfOk result (λ o. IfSome o (λ x. message_hint x.0 ≡ hinted (layer_is layer) h.content_hint)) }
+    {
+        let content_type = h.content_type;
+        Ok(match layer {
+            Layer::Pinf => pinf::Message::read_from_bytes(content_type, body)?.map(|(m, c)| (
+                Message::Pinf(m),
+                c,
+            )),
+            Layer::Sdmx => sdmx::Message::read_from_bytes(content_type, body)?.map(|(m, c)| (
+                Message::Sdmx(m),
+                c,
+            )),
+            Layer::Fptc => fptc::Message::read_from_bytes(content_type, body)?.map(|(m, c)| (
+                Message::Fptc(m, h.content_hint),
+                c,
+            )),
+            Layer::Fsel => fsel::Message::read_from_bytes(content_type, body)?.map(|(m, c)| (
+                Message::Fsel(m),
+                c,
+            )),
+            Layer::Finf => finf::Message::read_from_bytes(content_type, body)?.map(|(m, c)| (
+                Message::Finf(m),
+                c,
+            )),
+            Layer::Caex => caex::Message::read_from_bytes(content_type, body)?.map(|(m, c)| (
+                Message::Caex(m),
+                c,
+            )),
+        })
+    }
+}
+
 fn body_report(layer: Layer, h: LayerHeader, end: usize, body: &[u8]) -> Report
     ensures { report_says result ≡ content_in (layer_is layer) h end body.now }
 {
-    let content_type = h.content_type;
-    match layer {
-        Layer::Pinf => pinf_report(content_type, end, body),
-        Layer::Sdmx => sdmx_report(content_type, end, body),
-        Layer::Fptc => fptc_report(content_type, h.content_hint, end, body),
-        Layer::Fsel => fsel_report(content_type, end, body),
-        Layer::Finf => finf_report(content_type, end, body),
-        Layer::Caex => caex_report(content_type, end, body),
+    match Message::read_from_bytes(layer, h, body) {
+        Ok(Some((m, c))) => Report::Message(
+            m,
+            end.saturating_sub(body.len()),
+            body.len().saturating_sub(c.at),
+        ),
+        Ok(None) => Report::UnknownKind(layer.cookie(), h.content_type),
+        Err(r) => Report::Refused(r),
     }
 }
 
@@ -240,26 +164,22 @@ fn layer_report(layer: Layer, end: usize, packet: &[u8]) -> Report
 {
     let length = layer.header_length();
     if packet.len() < length {
-        return Report::Refused(6);
+        return Report::Refused(Refusal::ShortLayerHeader);
     }
-    let LayerHeaderRead::Read(h, _) = layer_header(layer, packet) else {
-        return Report::Refused(6);
+    let Ok((h, _)) = layer_header(layer, packet) else {
+        return Report::Refused(Refusal::ShortLayerHeader);
     };
-    let body = &packet[length..];
-    body_report(layer, h, end, body)
+    body_report(layer, h, end, &packet[length..])
 }
 
 fn packet_report(h: Header, end: usize, packet: &[u8]) -> Report
     requires { length packet.now ≤ end }
     ensures { report_says result ≡ content_at (end - length packet.now) (header_value h) packet.now }
 {
-    if 1 < h.message_part_count {
+    if 1 < h.message_part_count || 0 < h.message_part {
         return Report::Fragment(h.message_part, h.message_part_count);
     }
-    if 0 < h.message_part {
-        return Report::Fragment(h.message_part, h.message_part_count);
-    }
-    let LayerFound::Known(layer) = Layer::of(h.content_type) else {
+    let Some(layer) = Layer::of(h.content_type) else {
         return Report::UnknownLayer(h.content_type);
     };
     layer_report(layer, end, packet)
@@ -273,27 +193,24 @@ fn first_packet(rest: &[u8], size: usize) -> &[u8]
     &rest[..size]
 }
 
-// Whether a packet may start with this header where so many bytes are left: 0, or 2 to 5.
-fn packet_start(h: Header, left: usize) -> u8
-    ensures { result ≡ start_number (header_value h) left }
+// Whether a packet may start with this header where so many bytes are left.
+fn packet_start(h: Header, left: usize) -> Result<(), Refusal>
+    ensures { number_says result ≡ start_number (header_value h) left }
 {
     if h.cookie != Header::COOKIE {
-        return 2;
+        return Err(Refusal::NotCitp);
     }
     if h.version_major != Header::VERSION_MAJOR {
-        return 3;
+        return Err(Refusal::Version);
     }
     let size = h.message_size as usize;
-    if size < Header::LENGTH {
-        return 4;
-    }
-    if LIMIT < size {
-        return 4; // above the limit
+    if size < Header::LENGTH || LIMIT < size {
+        return Err(Refusal::MessageSize);
     }
     if left < size {
-        return 5;
+        return Err(Refusal::ShortStream);
     }
-    0
+    Ok(())
 }
 
 // ---- the body of a report
@@ -301,7 +218,7 @@ fn packet_start(h: Header, left: usize) -> u8
 impl Message {
     // The length of its headers, with the base header.
     pub fn header_length(self) -> usize
-        ensures { result ≡ header_length (layerOfKind (message_kind self)) }
+        ensures { result ≡ header_length (layer_of_kind (message_kind self)) }
     {
         match self {
             Message::Pinf(_) => Pinf::HEADER_LENGTH,
@@ -321,12 +238,12 @@ pub fn body_place(report: Report, size: u32) -> Block
     match report {
         Report::Message(m, start, _) => Block {
             start,
-            len: less(size as usize, m.header_length()),
+            len: (size as usize).saturating_sub(m.header_length()),
         },
-        Report::UnknownLayer(_) => Block { start: 0, len: 0 },
-        Report::UnknownKind(_, _) => Block { start: 0, len: 0 },
-        Report::Fragment(_, _) => Block { start: 0, len: 0 },
-        Report::Refused(_) => Block { start: 0, len: 0 },
+        Report::UnknownLayer(_)
+        | Report::UnknownKind(_, _)
+        | Report::Fragment(_, _)
+        | Report::Refused(_) => Block { start: 0, len: 0 },
     }
 }
 
@@ -335,9 +252,7 @@ impl PacketReport {
     pub fn body(self, s: &[u8]) -> &[u8]
         ensures { result.now ≡ body_of_report s.now (packet_says self) }
     {
-        let report = self.report;
-        let place = body_place(report, self.size);
-        place.bytes(s)
+        body_place(self.report, self.size).bytes(s)
     }
 }
 
@@ -350,26 +265,23 @@ impl Cursor {
         Self { at: 0 }
     }
 
-    // The packet at an offset of the stream; an offset past the end is an empty rest.
-    pub fn step(self, s: &[u8]) -> Step
-        ensures { step_says result ≡ step_at s.now self.at }
+    // The packet at the cursor, with the cursor of the next one; none at the stream's end, and at an offset past it. A refusal ends the walk.
+    pub fn step(self, s: &[u8]) -> Result<Option<(PacketReport, Cursor)>, Refusal>
+        ensures { step_says self.at result ≡ step_at s.now self.at }
     {
         let at = self.at;
         if s.len() <= at {
-            return Step::End(0, at);
+            return Ok(None);
         }
         let rest = &s[at..];
-        let HeaderRead::Read(h, _) = Header::read_from_bytes(rest) else {
-            return Step::End(1, at);
+        let Ok((h, _)) = Header::read_from_bytes(rest) else {
+            return Err(Refusal::ShortHeader);
         };
-        let number = packet_start(h, rest.len());
-        if number != 0 {
-            return Step::End(number, at);
-        }
+        packet_start(h, rest.len())?;
         let size = h.message_size as usize;
         let end = at + size;
         let report = packet_report(h, end, first_packet(rest, size));
-        Step::Packet(
+        Ok(Some((
             PacketReport {
                 offset: at,
                 size: h.message_size,
@@ -377,6 +289,6 @@ impl Cursor {
                 report,
             },
             Cursor { at: end },
-        )
+        )))
     }
 }

@@ -2,68 +2,46 @@
 // blocks and channel lists that the rack refuses, then each channel's level at the stream's end.
 #![tactic(auto)]
 
-use citp::{Cursor, Message, PacketReport, Report, Step};
+use citp::{Cursor, Message, PacketReport, Report};
 use dimmer::{CHANNELS, Dimmer};
 use intake::read_all;
+use refusal::Refusal;
 use std::env::FillError;
 use std::rt::Env;
+use std::{io, str};
 
 // ---- lines
 
-fn complain(stderr: &impl Print, what: &[u8]) {
-    let _ = stderr.write_all(what);
+// A line on standard error, whose failure cannot be told.
+fn complain(stderr: &impl Print, what: &str) {
+    let _ = println!(stderr; "citp_levels: {what}");
 }
 
-// Whether the line could be written.
-fn decimal(stdout: &impl Print, key: &[u8], n: u64) -> bool {
-    stdout.write_all(key).is_ok() && stdout.print(n).is_ok() && stdout.write_all(b"\n").is_ok()
-}
-
-// A level as the number to be printed.
-fn wide(x: u8) -> u64 {
-    x as u64
-}
-
-// Whether all lines could be written, here and below.
-fn show_levels(stdout: &impl Print, levels: &[u8; 512]) -> bool {
-    let mut k: usize = 0;
-    while k < CHANNELS {
-        if !decimal(stdout, b"levels=", wide(levels[k])) {
-            return false;
-        }
-        k += 1;
+fn show_end(
+    stdout: &impl Print,
+    levels: &[u8; CHANNELS],
+    packets: u64,
+    stop: u8,
+) -> io::Result<()> {
+    println!(stdout; "levels.count={CHANNELS}")?;
+    for level in levels {
+        println!(stdout; "levels={level}")?;
     }
-    true
+    println!(stdout; "packets={packets}\nstop={stop}")
 }
 
-fn show_end(stdout: &impl Print, levels: &[u8; 512], packets: u64, number: u8) -> bool {
-    decimal(stdout, b"levels.count=", CHANNELS as u64)
-        && show_levels(stdout, levels)
-        && decimal(stdout, b"packets=", packets)
-        && decimal(stdout, b"stop=", number as u64)
-}
-
-// A message's number; a refused one is shown.
-fn show_number(stdout: &impl Print, number: u8, at: usize, kind: &[u8]) -> bool {
-    if number == 0 {
-        return true;
-    }
-    decimal(stdout, b"at=", at as u64)
-        && stdout.write_all(kind).is_ok()
-        && decimal(stdout, b"refusal=", number as u64)
-}
-
-// What is wrong with the output or the stream.
-fn tell(stderr: &impl Print, written: bool, unread: bool) {
-    if !written {
-        complain(stderr, b"citp_levels: standard output: cannot be written\n");
-    }
-    if unread {
-        complain(
-            stderr,
-            b"citp_levels: some packets cannot be read: citp-list lists them\n",
-        );
-    }
+// A message is shown where it is refused.
+fn show_refused(
+    stdout: &impl Print,
+    answer: Result<(), Refusal>,
+    at: usize,
+    kind: &str,
+) -> io::Result<()> {
+    let Err(refusal) = answer else {
+        return Ok(());
+    };
+    let number = refusal.number();
+    println!(stdout; "at={at}\nkind={kind}\nrefusal={number}")
 }
 
 // ---- the stream
@@ -72,36 +50,19 @@ fn tell(stderr: &impl Print, written: bool, unread: bool) {
 fn feed(
     stdout: &impl Print,
     dimmer: Dimmer,
-    levels: &mut [u8; 512],
+    levels: &mut [u8; CHANNELS],
     p: PacketReport,
     s: &[u8],
-) -> bool {
-    let report = p.report;
-    let Report::Message(message, _, _) = report else {
-        return true;
-    };
-    let Message::Sdmx(message) = message else {
-        return true;
+) -> io::Result<()> {
+    let Report::Message(Message::Sdmx(message), _, _) = p.report else {
+        return Ok(());
     };
     let body = p.body(s);
     match message {
-        sdmx::Message::ChBk(_) => {
-            show_number(stdout, dimmer.chbk(levels, body), p.offset, b"kind=ChBk\n")
-        }
-        sdmx::Message::ChLs(_) => {
-            show_number(stdout, dimmer.chls(levels, body), p.offset, b"kind=ChLs\n")
-        }
-        _ => true,
+        sdmx::Message::ChBk(_) => show_refused(stdout, dimmer.chbk(levels, body), p.offset, "ChBk"),
+        sdmx::Message::ChLs(_) => show_refused(stdout, dimmer.chls(levels, body), p.offset, "ChLs"),
+        _ => Ok(()),
     }
-}
-
-// A packet of any layer that cannot be read.
-fn is_unread(p: PacketReport) -> bool {
-    let report = p.report;
-    let Report::Refused(_) = report else {
-        return false;
-    };
-    true
 }
 
 // A packet has 20 bytes or more, so the stream ends before the bound.
@@ -110,68 +71,42 @@ fn walk(
     stderr: &impl Print,
     s: &[u8],
     universe_index: u8,
-    levels: &mut [u8; 512],
+    levels: &mut [u8; CHANNELS],
 ) {
     let dimmer = Dimmer::new(universe_index, levels);
     let mut c = Cursor::new();
-    let mut packets: u64 = 0;
     let mut unread = false;
     let mut written = true;
-    while packets < 65536 {
+    for packets in 0..65536 {
         match c.step(s) {
-            Step::Packet(p, next) => {
-                unread = unread || is_unread(p);
-                let shown = feed(stdout, dimmer, levels, p, s);
-                written = written && shown;
+            Ok(Some((p, next))) => {
+                unread |= matches!(p.report, Report::Refused(_));
+                written &= feed(stdout, dimmer, levels, p, s).is_ok();
                 c = next;
-                packets += 1;
             }
-            Step::End(number, _) => {
-                let shown = show_end(stdout, levels, packets, number);
-                tell(stderr, written && shown, unread);
-                return;
+            end => {
+                let stop = end.err().map_or(0, Refusal::number);
+                written &= show_end(stdout, levels, packets, stop).is_ok();
+                break;
             }
         }
+    }
+    if !written {
+        complain(stderr, "standard output: cannot be written");
+    }
+    if unread {
+        complain(stderr, "some packets cannot be read: citp-list lists them");
     }
 }
 
 // ---- the argument
 
-// The universe that an argument names, or that it names none.
-#[derive(Clone, Copy)]
-enum Universe {
-    Index(u8),
-    None,
-}
-
 // Decimal digits, of a number of at most 255.
-fn universe_of(digits: &[u8]) -> Universe {
-    if digits.len() == 0 {
-        return Universe::None;
+fn universe_of(argument: &[u8]) -> Option<u8> {
+    if !argument.iter().all(|byte| byte.is_ascii_digit()) {
+        return None;
     }
-    let mut n: u16 = 0;
-    let mut i: usize = 0;
-    while i < digits.len() {
-        let digit = digits[i];
-        if digit < b'0' {
-            return Universe::None;
-        }
-        if b'9' < digit {
-            return Universe::None;
-        }
-        n = 10 * n + (digit - b'0') as u16;
-        if 255 < n {
-            return Universe::None;
-        }
-        i += 1;
-    }
-    Universe::Index(n as u8)
-}
-
-fn tell_argument(stderr: &impl Print, argument: &[u8]) {
-    complain(stderr, b"citp_levels: ");
-    complain(stderr, argument);
-    complain(stderr, b": not a universe, a decimal number of 0 to 255\n");
+    str::from_utf8(argument).ok()?.parse().ok()
 }
 
 // Whether there are so many arguments behind the program's name, or more.
@@ -179,16 +114,24 @@ fn has_argument(env: &impl Env, number: usize) -> bool {
     !matches!(env.arg(number, &mut []), Err(FillError::NotPresent))
 }
 
+// An argument that names no universe, with its bytes as they are.
+fn tell_argument(stderr: &impl Print, argument: &[u8]) {
+    let _ = stderr.write_all(b"citp_levels: ");
+    let _ = stderr.write_all(argument);
+    let _ = stderr.write_all(b": not a universe, a decimal number of 0 to 255\n");
+}
+
 // The universe of the argument; that it names none is told. One that is too long fills the buffer.
-fn read_argument(rt: &impl Env, stderr: &impl Print) -> Universe {
+fn read_argument(rt: &impl Env, stderr: &impl Print) -> Option<u8> {
     let mut argument = [0u8; 4096];
     let Ok(length) = rt.arg(1, &mut argument) else {
         tell_argument(stderr, &argument);
-        return Universe::None;
+        return None;
     };
-    let universe = universe_of(&argument[..length]);
-    if let Universe::None = universe {
-        tell_argument(stderr, &argument[..length]);
+    let argument = &argument[..length];
+    let universe = universe_of(argument);
+    if universe.is_none() {
+        tell_argument(stderr, argument);
     }
     universe
 }
@@ -199,31 +142,23 @@ fn main(rt: HostRuntime) {
     if !has_argument(&rt, 1) || has_argument(&rt, 2) {
         complain(
             &stderr,
-            b"citp_levels: one argument is due: the universe, a decimal number of 0 to 255\n",
+            "one argument is due: the universe, a decimal number of 0 to 255",
         );
         return;
     }
-    let Universe::Index(universe_index) = read_argument(&rt, &stderr) else {
+    let Some(universe_index) = read_argument(&rt, &stderr) else {
         return;
     };
     let mut buf = [0u8; 65537];
-    let Ok(n) = read_all(&mut rt.stdin(), &mut buf) else {
-        complain(&stderr, b"citp_levels: standard input: cannot be read\n");
-        return;
-    };
-    if 65536 < n {
-        complain(
+    match read_all(&mut rt.stdin(), &mut buf) {
+        Err(_) => complain(&stderr, "standard input: cannot be read"),
+        Ok(65537) => complain(&stderr, "standard input: longer than 65536 bytes"),
+        Ok(n) => walk(
+            &rt.stdout(),
             &stderr,
-            b"citp_levels: standard input: longer than 65536 bytes\n",
-        );
-        return;
+            &buf[..n],
+            universe_index,
+            &mut [0u8; CHANNELS],
+        ),
     }
-    let mut levels = [0u8; 512];
-    walk(
-        &rt.stdout(),
-        &stderr,
-        &buf[..n],
-        universe_index,
-        &mut levels,
-    );
 }

@@ -6,16 +6,11 @@ use listing::list_from;
 
 // Writes the listing of s part by part; a write that fails ends it.
 fn list(stdout: &impl Print, s: &[u8], out: &mut [u8]) {
-    let mut from: u32 = 0;
-    while from < 0x8000_0000 {
+    for from in (0..0x8000_0000).step_by(65536) {
         let n = list_from(out, from, s);
-        if stdout.write_all(&out[..n]).is_err() {
+        if stdout.write_all(&out[..n]).is_err() || n < 65536 {
             return;
         }
-        if n < 65_536 {
-            return;
-        }
-        from += 65_536;
     }
 }
 

@@ -8,19 +8,13 @@ use lib.ListN.{length}
 use lib.Dec.{eqb}
 use Rattle.format.specs.Format.{pick}
 use Rattle.format.specs.Fault.{any}
-use Rattle.format.specs.View.{view}
-use Rattle.format.proofs.Chain.{met}
+use Rattle.format.specs.View.{seen, missed, view}
 use Rattle.format.proofs.Look.{unseen}
 use Rattle.protocol.specs.Kind.{ChBk, ChLs, body_of}
 use Rattle.protocol.proofs.Values.{block-value, list-value}
-use Rattle.sdmx.specs.Says.{chbk_says, chls_says}
+use Rattle.sdmx.specs.Says.{chbk_view, chls_view}
 use Rattle.sdmx.specs.declared.ChBk as block
 use Rattle.sdmx.specs.declared.ChLs as channel-list
-use Rattle.sdmx.specs.declared.ChBkRead.{ChBkRead}
-use Rattle.sdmx.specs.declared.ChLsRead.{ChLsRead}
-use Rattle.sdmx.specs.declared.ChBkRead.TheVariants as Block-read
-use Rattle.sdmx.specs.declared.ChLsRead.TheVariants as List-read
-use Rattle.wire.specs.declared.Cursor.{Cursor}
 use Rattle.dimming.specs.Levels.{chbk, chls, Setting, settings, unread, change, is_past, set_all, answer}
 use Rattle.dimmer.specs.Settings.{block_set, records_set}
 use Rattle.dimmer.proofs.Runs.{runs}
@@ -42,14 +36,14 @@ module _ (xs : List Setting) (levels : List ℕ) where
 -- ---- a body
 
 module _ (u : ℕ) (s : List ℕ) (levels : List ℕ) where
-  pub block-taken : (r : ChBkRead) (x : block.ChBk) (c : Cursor) {n : ℕ} {after : List ℕ} → chbk_says r ≡ view (body_of ChBk) s 0 → r ≡ Block-read.Read x c
+  pub block-taken : {x : block.ChBk} {e n : ℕ} {after : List ℕ} → seen (chbk_view x) e ≡ view (body_of ChBk) s 0
       → (n, after) ≡ answer (settings (block_set u s x)) levels → (n, after) ≡ answer (change u (chbk s)) levels
-  block-taken r x c t i e = rw (block-value s (met chbk_says t i)) e
+  block-taken t i = rw (block-value s (sym t)) i
 
-  pub list-taken : (r : ChLsRead) (x : channel-list.ChLs) (c : Cursor) {n : ℕ} {after : List ℕ} → chls_says r ≡ view (body_of ChLs) s 0 → r ≡ List-read.Read x c
+  pub list-taken : {x : channel-list.ChLs} {e n : ℕ} {after : List ℕ} → seen (chls_view x) e ≡ view (body_of ChLs) s 0
       → (n, after) ≡ answer (settings (records_set u s x.channel_levels.at x.channel_levels.left)) levels
       → (n, after) ≡ answer (change u (chls s)) levels
-  list-taken r x c t i e = rw (list-value s (met chls_says t i)).1 e
+  list-taken t i = rw (list-value s (sym t)).1 i
 
   kept : (n : ℕ) → (n, levels) ≡ answer (unread n) levels
   unfolding set_all
@@ -59,14 +53,14 @@ module _ (u : ℕ) (s : List ℕ) (levels : List ℕ) where
       go true = refl
       go false = refl
 
-  pub block_refused : (r : ChBkRead) (n : ℕ) → chbk_says r ≡ view (body_of ChBk) s 0 → r ≡ Block-read.Refused n → (n, levels) ≡ answer (change u (chbk s)) levels
-  block_refused r n t i = rw (unseen (body_of ChBk) s 0 (met chbk_says t i)) (kept n)
+  pub block_refused : {n : ℕ} → missed n ≡ view (body_of ChBk) s 0 → (n, levels) ≡ answer (change u (chbk s)) levels
+  block_refused {n} t = rw (unseen (body_of ChBk) s 0 (sym t)) (kept n)
 
-  pub list-refused : (r : ChLsRead) (n : ℕ) → chls_says r ≡ view (body_of ChLs) s 0 → r ≡ List-read.Refused n → (n, levels) ≡ answer (change u (chls s)) levels
-  list-refused r n t i = rw (unseen (body_of ChLs) s 0 (met chls_says t i)) (kept n)
+  pub list-refused : {n : ℕ} → missed n ≡ view (body_of ChLs) s 0 → (n, levels) ≡ answer (change u (chls s)) levels
+  list-refused {n} t = rw (unseen (body_of ChLs) s 0 (sym t)) (kept n)
 
-pub list-within : (s : List ℕ) (r : ChLsRead) (x : channel-list.ChLs) (c : Cursor) → chls_says r ≡ view (body_of ChLs) s 0 → r ≡ List-read.Read x c
+pub list-within : (s : List ℕ) {x : channel-list.ChLs} {e : ℕ} → seen (chls_view x) e ≡ view (body_of ChLs) s 0
     → x.channel_levels.at + x.channel_levels.left * 4 ≤ length s
-list-within s r x c t i = (list-value s (met chls_says t i)).0
+list-within s t = (list-value s (sym t)).0
 
 pub ruleset needs = (kit.rules, runs, records, list-past, list-clear, list_set, list-within, block-taken, block_refused, list-taken, list-refused)

@@ -10,8 +10,11 @@ ghost use Rattle.protocol.specs.Kind.{channel_level_format};
 ghost use Rattle.sdmx.specs.Says.{channel_level_view};
 ghost use Rattle.dimming.specs.Levels.{chbk, chls, settings, change, is_past, set_all, answer};
 ghost use Rattle.dimmer.specs.Settings.{start, block_set, records_set};
+ghost use Rattle.refusal.specs.Says.{number_says};
 
-use sdmx::{ChBk, ChBkRead, ChLs, ChLsRead, ChannelLevel, ChannelLevels, ChannelLevelsNext};
+use refusal::Refusal;
+use sdmx::{ChBk, ChLs, ChannelLevel, ChannelLevels};
+use wire::{Cursor, Item};
 
 // The channels of a universe.
 pub const CHANNELS: usize = 512;
@@ -24,39 +27,26 @@ pub struct Dimmer {
 
 // ---- a channel block
 
-// Sets the levels of a run of channels.
+// Sets the levels of a run of channels, one by one: copied whole, they would be a call of memcpy.
 fn set_run(levels: &mut [u8; 512], first: usize, run: &[u8])
     requires { first + length run.now ≤ 512 }
     ensures { levels.new ≡ sets levels.old first run.now }
 {
-    let mut i = 0;
-    while i < run.len() {
-        levels[first + i] = run[i];
-        i += 1;
+    for (i, level) in run.iter().enumerate() {
+        levels[first + i] = *level;
     }
 }
 
 // ---- a channel list
 
-// Stands where a list of one has no record, which is never.
-const NO_RECORD: ChannelLevel = ChannelLevel {
-    universe_index: 0,
-    channel: 0,
-    channel_level: 0,
-};
-
-// The record at an offset, read as a list of one out of its own bytes: the compiler knows how many they are, and leaves no test of it.
+// The record at an offset, read out of its own bytes: the compiler knows how many they are, and leaves no test of it.
 fn record_at(body: &[u8], at: usize) -> ChannelLevel
     requires { at + 4 ≤ length body.now }
     ensures { view channel_level_format body.now at ≡ seen (channel_level_view result) (at + 4) }
 {
     let end = at + ChannelLevel::WIDTH;
-    let one = ChannelLevels { at: 0, left: 1 };
-    match one.next(&body[at..end]) {
-        ChannelLevelsNext::Item(x, _) => x,
-        ChannelLevelsNext::Done => NO_RECORD,
-        ChannelLevelsNext::Refused(_) => NO_RECORD,
-    }
+    let (x, _) = ChannelLevel::read(&body[at..end], Cursor::START).unwrap();
+    x
 }
 
 // Whether a record for the universe names a channel past 511.
@@ -64,16 +54,9 @@ fn names_past(list: ChannelLevels, body: &[u8], universe_index: u8) -> bool
     requires { list.at + list.left * 4 ≤ length body.now }
     ensures { result ≡ any is_past (records_set universe_index body.now list.at list.left) }
 {
-    let mut at = list.at;
-    let mut left = list.left;
-    while 0 < left {
-        let x = record_at(body, at);
-        at += ChannelLevel::WIDTH;
-        left -= 1;
-        if (x.channel as usize) < CHANNELS {
-            continue;
-        }
-        if x.universe_index == universe_index {
+    for i in 0..list.left as usize {
+        let x = record_at(body, list.at + i * ChannelLevel::WIDTH);
+        if CHANNELS <= x.channel as usize && x.universe_index == universe_index {
             return true;
         }
     }
@@ -87,17 +70,11 @@ fn set_records(levels: &mut [u8; 512], list: ChannelLevels, body: &[u8], univers
     ensures { levels.new
         ≡ set_all (records_set universe_index body.now list.at list.left) levels.old }
 {
-    let mut at = list.at;
-    let mut left = list.left;
-    while 0 < left {
-        let x = record_at(body, at);
-        at += ChannelLevel::WIDTH;
-        left -= 1;
-        if x.universe_index != universe_index {
-            continue;
+    for i in 0..list.left as usize {
+        let x = record_at(body, list.at + i * ChannelLevel::WIDTH);
+        if x.universe_index == universe_index {
+            levels[x.channel as usize] = x.channel_level;
         }
-        let channel = x.channel as usize;
-        levels[channel] = x.channel_level;
     }
 }
 
@@ -113,60 +90,58 @@ impl Dimmer {
     }
 
     // A channel block that was read from a body.
-    fn set_block(self, levels: &mut [u8; 512], x: ChBk, body: &[u8]) -> u8
-        ensures { (result, levels.new)
+    fn set_block(self, levels: &mut [u8; 512], x: ChBk, body: &[u8]) -> Result<(), Refusal>
+        ensures { (number_says result, levels.new)
             ≡ answer (settings (block_set self.universe_index body.now x)) levels.old }
     {
-        if x.blind != 0 {
-            return 0;
-        }
-        if x.universe_index != self.universe_index {
-            return 0;
+        if x.blind != 0 || x.universe_index != self.universe_index {
+            return Ok(());
         }
         let run = x.channel_levels.bytes(body);
-        if run.len() == 0 {
-            return 0;
+        if run.is_empty() {
+            return Ok(());
         }
         let first = x.first_channel as usize;
         if CHANNELS < first + run.len() {
-            return 20;
+            return Err(Refusal::PastUniverse);
         }
         set_run(levels, first, run);
-        0
+        Ok(())
     }
 
     // A channel list that was read from a body.
-    fn set_list(self, levels: &mut [u8; 512], list: ChannelLevels, body: &[u8]) -> u8
+    fn set_list(
+        self,
+        levels: &mut [u8; 512],
+        list: ChannelLevels,
+        body: &[u8],
+    ) -> Result<(), Refusal>
         requires { list.at + list.left * 4 ≤ length body.now }
-        ensures { (result, levels.new)
+        ensures { (number_says result, levels.new)
             ≡ answer (settings (records_set self.universe_index body.now list.at list.left)) levels.old }
     {
         if names_past(list, body, self.universe_index) {
-            return 20;
+            return Err(Refusal::PastUniverse);
         }
         set_records(levels, list, body, self.universe_index);
-        0
+        Ok(())
     }
 
-    // The body of a ChBk: levels of consecutive channels. 0, or the number of the refusal.
-    pub fn chbk(self, levels: &mut [u8; 512], body: &[u8]) -> u8
-        ensures { (result, levels.new)
+    // The body of a ChBk: levels of consecutive channels.
+    pub fn chbk(self, levels: &mut [u8; 512], body: &[u8]) -> Result<(), Refusal>
+        ensures { (number_says result, levels.new)
             ≡ answer (change self.universe_index (chbk body.now)) levels.old }
     {
-        match ChBk::read_from_bytes(body) {
-            ChBkRead::Read(x, _) => self.set_block(levels, x, body),
-            ChBkRead::Refused(number) => number,
-        }
+        let (x, _) = ChBk::read_from_bytes(body)?;
+        self.set_block(levels, x, body)
     }
 
     // The body of a ChLs: levels of single channels, in list order.
-    pub fn chls(self, levels: &mut [u8; 512], body: &[u8]) -> u8
-        ensures { (result, levels.new)
+    pub fn chls(self, levels: &mut [u8; 512], body: &[u8]) -> Result<(), Refusal>
+        ensures { (number_says result, levels.new)
             ≡ answer (change self.universe_index (chls body.now)) levels.old }
     {
-        match ChLs::read_from_bytes(body) {
-            ChLsRead::Read(x, _) => self.set_list(levels, x.channel_levels, body),
-            ChLsRead::Refused(number) => number,
-        }
+        let (x, _) = ChLs::read_from_bytes(body)?;
+        self.set_list(levels, x.channel_levels, body)
     }
 }

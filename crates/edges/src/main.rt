@@ -3,87 +3,48 @@
 // what each must give.
 #![tactic(auto)]
 
-ghost use Rattle.std.specs.Prelude.{◌≡◌, ◌≤◌, length};
+ghost use Rattle.std.specs.Prelude.{◌≡◌, ◌≤◌, length, IfSome};
 
 use capabilities::list_unsupported;
-use citp::{Cursor, Message, PacketReport, Report, Step};
-use fixture::{Fixtures, FixturesNext, Identifier, IdentifierType, Identifiers, IdentifiersNext};
+use citp::{Cursor, Message, PacketReport, Report};
+use fixture::{Fixtures, Identifier, IdentifierType, Identifiers};
 use intake::read_full;
+use refusal::Refusal;
 use turns::Kind;
-use wire::Block;
-use writer::{Writer, Written};
+use writer::Writer;
 
 // ---- lines of a label and a number: what is written, and, set in, what an edge gives
 
-type Label = [u8; 24];
-
-const IDENTIFIER_DATA: Label = *b"identifier data         ";
-
-const CAPABILITIES: Label = *b"capabilities            ";
-
-const FEED_NAMES: Label = *b"laser feed names        ";
-
-const POINTS: Label = *b"laser points            ";
-
-const SHOW_NAME: Label = *b"show name, units        ";
-
-const PEER_NAME: Label = *b"peer name, bytes        ";
-
-const FRAME_NAMES: Label = *b"frame names, bytes      ";
-
-const PLACES: Label = *b"offsets, places         ";
-
-const COUNT: Label = *b"  count                 ";
-
-const OFFSET: Label = *b"  offset                ";
-
-const ROOM: Label = *b"  room                  ";
-
-const WRITTEN: Label = *b"  written, size         ";
-
-const STOP: Label = *b"  stop                  ";
-
-const REFUSED: Label = *b"  refused               ";
-
-const UNKNOWN_LAYER: Label = *b"  unknown layer, size   ";
-
-const UNKNOWN_KIND: Label = *b"  unknown kind, size    ";
-
-const FRAGMENT: Label = *b"  fragment, part        ";
-
-const MESSAGE: Label = *b"  message, added        ";
-
-const IDENTIFIER_TYPE: Label = *b"  identifier_type       ";
-
-const DATA_SIZE: Label = *b"  data_size             ";
-
-const FEED_COUNT: Label = *b"  feed_count            ";
-
-const POINT_COUNT: Label = *b"  point_count           ";
-
-fn text(stdout: &impl Print, s: &[u8]) {
-    let _ = stdout.write_all(s);
+fn show(stdout: &impl Print, label: &str, number: u64) {
+    let _ = println!(stdout; "{label:<24}{number}");
 }
 
-fn show(stdout: &impl Print, label: Label, number: u64) {
-    text(stdout, &label);
-    let _ = stdout.print(number);
-    text(stdout, b"\n");
+fn show_refused(stdout: &impl Print, refusal: Refusal) {
+    show(stdout, "  refused", u64::from(refusal.number()));
+}
+
+// 0 at the stream's end.
+fn show_stop(stdout: &impl Print, refusal: Option<Refusal>) {
+    let stop = refusal.map_or(0, Refusal::number);
+    show(stdout, "  stop", u64::from(stop));
 }
 
 // ---- a packet read
 
 fn show_identifier(stdout: &impl Print, identifiers: Identifiers, body: &[u8]) {
-    let IdentifiersNext::Item(x, _) = identifiers.next(body) else {
+    let Ok(Some((x, _))) = identifiers.next(body) else {
         return;
     };
-    let identifier_type = x.identifier_type;
-    show(stdout, IDENTIFIER_TYPE, identifier_type.code() as u64);
-    show(stdout, DATA_SIZE, x.data_size() as u64);
+    show(
+        stdout,
+        "  identifier_type",
+        u64::from(x.identifier_type.code()),
+    );
+    show(stdout, "  data_size", x.data_size() as u64);
 }
 
 fn show_fixture(stdout: &impl Print, fixtures: Fixtures, body: &[u8]) {
-    let FixturesNext::Item(fixture, _) = fixtures.next(body) else {
+    let Ok(Some((fixture, _))) = fixtures.next(body) else {
         return;
     };
     show_identifier(stdout, fixture.identifiers, body);
@@ -96,10 +57,14 @@ fn show_message(stdout: &impl Print, message: Message, body: &[u8]) {
     };
     match message {
         caex::Message::FixtureList(list) => show_fixture(stdout, list.fixtures, body),
-        caex::Message::LaserFeedList(list) => show(stdout, FEED_COUNT, list.feed_count() as u64),
+        caex::Message::LaserFeedList(list) => show(
+            stdout,
+            "  feed_count",
+            list.feed_count() as u64,
+        ),
         caex::Message::LaserFeedFrame(frame) => show(
             stdout,
-            POINT_COUNT,
+            "  point_count",
             frame.point_count() as u64,
         ),
         _ => {}
@@ -107,109 +72,90 @@ fn show_message(stdout: &impl Print, message: Message, body: &[u8]) {
 }
 
 fn show_packet(stdout: &impl Print, p: PacketReport, s: &[u8]) {
-    let report = p.report;
-    match report {
+    match p.report {
         Report::Message(message, _, added) => {
-            show(stdout, MESSAGE, added as u64);
+            show(stdout, "  message, added", added as u64);
             show_message(stdout, message, p.body(s));
         }
-        Report::UnknownLayer(_) => show(stdout, UNKNOWN_LAYER, p.size as u64),
-        Report::UnknownKind(_, _) => show(stdout, UNKNOWN_KIND, p.size as u64),
-        Report::Fragment(part, _) => show(stdout, FRAGMENT, part as u64),
-        Report::Refused(n) => show(stdout, REFUSED, n as u64),
+        Report::UnknownLayer(_) => show(stdout, "  unknown layer, size", p.size as u64),
+        Report::UnknownKind(_, _) => show(stdout, "  unknown kind, size", p.size as u64),
+        Report::Fragment(part, _) => show(stdout, "  fragment, part", part as u64),
+        Report::Refused(refusal) => show_refused(stdout, refusal),
     }
 }
 
 fn read(stdout: &impl Print, s: &[u8]) {
     match Cursor::new().step(s) {
-        Step::Packet(p, _) => show_packet(stdout, p, s),
-        Step::End(n, _) => show(stdout, STOP, n as u64),
+        Ok(Some((p, _))) => show_packet(stdout, p, s),
+        end => show_stop(stdout, end.err()),
     }
 }
 
 // ---- the lines of standard input
 
-// A line so far: behind `=` a packet in hexadecimal.
+// A packet so far, in hexadecimal.
 #[derive(Clone, Copy)]
-struct Line {
-    packet: [u8; 600],
+struct Packet {
+    bytes: [u8; 600],
     digits: usize,
-    in_packet: bool,
 }
 
-// 16 of what is no digit.
-fn value(digit: u8) -> u8
-    ensures { result ≤ 16 }
+fn value(digit: u8) -> Option<u8>
+    ensures { IfSome result (λ v. v ≤ 15) }
 {
     match digit {
-        b'0'..=b'9' => digit - b'0',
-        b'A'..=b'F' => digit - b'A' + 10,
-        _ => 16,
+        b'0'..=b'9' => Some(digit - b'0'),
+        b'A'..=b'F' => Some(digit - b'A' + 10),
+        _ => None,
     }
 }
 
-impl Line {
-    fn new(in_packet: bool) -> Line {
-        Line {
-            packet: [0; 600],
-            digits: 0,
-            in_packet,
-        }
-    }
+impl Packet {
+    const EMPTY: Packet = Packet {
+        bytes: [0; 600],
+        digits: 0,
+    };
 
-    fn with_digit(self, digit: u8) -> Line {
-        let mut line = self;
-        let v = value(digit);
-        let i = line.digits / 2;
-        if v < 16 {
+    // What is no digit, or has no room, is passed over.
+    fn with_digit(mut self, digit: u8) -> Packet {
+        let i = self.digits / 2;
+        if let Some(v) = value(digit) {
             if i < 600 {
-                line.packet[i] = 16 * (line.packet[i] % 16) + v;
-                line.digits += 1;
+                self.bytes[i] = 16 * (self.bytes[i] % 16) + v;
+                self.digits += 1;
             }
         }
-        line
+        self
     }
 
-    fn read(self, stdout: &impl Print) {
-        let place = Block {
-            start: 0,
-            len: self.digits / 2,
-        };
-        if self.in_packet {
-            read(stdout, place.bytes(&self.packet));
-        }
-    }
-
-    fn take(self, stdout: &impl Print, c: u8) -> Line {
-        text(stdout, &[c]);
-        match c {
-            b'\n' => {
-                self.read(stdout);
-                Line::new(false)
-            }
-            b'=' => Line::new(true),
-            _ => self.with_digit(c),
-        }
+    fn bytes(&self) -> &[u8] {
+        &self.bytes[..(self.digits / 2).min(600)]
     }
 }
 
-// Each line as it stands, and what its packet gives.
+// Each line as it stands, and what the packet gives that is behind its `=`.
 fn read_edges(stdout: &impl Print, s: &[u8]) {
-    let mut line = Line::new(false);
-    let mut i = 0;
-    while i < s.len() {
-        line = line.take(stdout, s[i]);
-        i += 1;
+    let mut packet: Option<Packet> = None;
+    for c in s {
+        let _ = stdout.write_all(&[*c]);
+        packet = match (*c, packet) {
+            (b'\n', Some(whole)) => {
+                read(stdout, whole.bytes());
+                None
+            }
+            (b'=', _) => Some(Packet::EMPTY),
+            (digit, Some(part)) => Some(part.with_digit(digit)),
+            (_, None) => None,
+        };
     }
 }
 
 // ---- what is written
 
-fn show_written(stdout: &impl Print, number: u8, size: usize) {
-    if number == 0 {
-        show(stdout, WRITTEN, size as u64);
-    } else {
-        show(stdout, REFUSED, number as u64);
+fn show_written(stdout: &impl Print, answer: Result<usize, Refusal>) {
+    match answer {
+        Ok(size) => show(stdout, "  written, size", size as u64),
+        Err(refusal) => show_refused(stdout, refusal),
     }
 }
 
@@ -222,85 +168,63 @@ fn buffer() -> [u8; 131096]
 
 fn identifier_edge(stdout: &impl Print, data_size: usize) {
     let data = [0u8; 65536];
-    let place = Block {
-        start: 0,
-        len: data_size,
-    };
     let mut out = buffer();
-    show(stdout, IDENTIFIER_DATA, data_size as u64);
-    let put = Identifier::write_to_bytes(
+    show(stdout, "identifier data", data_size as u64);
+    let answer = Identifier::write_to_bytes(
         &mut out,
         0,
         IdentifierType::RDMManufacturerId,
-        place.bytes(&data),
+        first(&data, data_size),
     );
-    show_written(stdout, put.number, put.at);
+    show_written(stdout, answer);
 }
 
-// The first so many units; all where there are fewer.
-fn first(units: &[u16], count: usize) -> &[u16] {
-    if count < units.len() {
-        return &units[0..count];
-    }
-    units
-}
-
-fn first_bytes(bytes: &[u8], count: usize) -> &[u8] {
-    let place = Block {
-        start: 0,
-        len: count,
-    };
-    place.bytes(bytes)
+// The first so many; all where there are fewer.
+fn first<T>(all: &[T], count: usize) -> &[T] {
+    &all[..count.min(all.len())]
 }
 
 // As many names of one unit, up to the first refusal.
-fn give_names(out: &mut [u8], head: Written, count: usize) -> Written {
-    let mut given = head;
-    let mut i = 0;
-    while i < count {
-        if given.number != 0 {
-            return given;
-        }
-        let w = given.writer;
-        given = w.feed_name(out, &[65]);
-        i += 1;
+fn give_names(out: &mut [u8], head: Writer, count: usize) -> Result<Writer, Refusal> {
+    let mut w = head;
+    for _ in 0..count {
+        w = w.feed_name(out, &[65])?;
     }
-    given
+    Ok(w)
 }
 
-fn give(out: &mut [u8], w: Writer, kind: Kind, count: usize) -> Written {
+fn give(out: &mut [u8], kind: Kind, count: usize) -> Result<Writer, Refusal> {
+    let w = Writer::new().open(out, kind, 0, 0)?;
     match kind {
         Kind::EnterShow => w.enter_show(out, first(&[65; 256], count)),
-        Kind::PNam => w.pnam(out, first_bytes(&[65; 256], count)),
-        Kind::Fram => w.fram(out, 1, 2, 3, first_bytes(&[65; 65536], count)),
+        Kind::PNam => w.pnam(out, first(&[65; 256], count)),
+        Kind::Fram => w.fram(out, 1, 2, 3, first(&[65; 65536], count)),
         Kind::Capa => w.capa(out, first(&[1; 65536], count)),
         Kind::LaserFeedList => {
-            let head = w.laser_feed_list_head(out, 1, count);
+            let head = w.laser_feed_list_head(out, 1, count)?;
             give_names(out, head, count)
         }
         _ => w.laser_feed_frame_head(out, 1, 0, 5, count),
     }
 }
 
-// What the last call gives; where it is taken, the packet closed and read.
+// What the last call gives; where it is taken, the packet closed, as far as it can be, and read.
 fn write(stdout: &impl Print, out: &mut [u8], kind: Kind, count: usize) {
-    let w = Writer::new().open(out, kind, 0, 0).writer;
-    let given = give(out, w, kind, count);
-    let w = given.writer;
-    show_written(stdout, given.number, w.at);
-    if given.number == 0 {
-        w.close(out);
+    let given = give(out, kind, count);
+    show_written(stdout, given.map(|w| w.at));
+    if let Ok(w) = given {
+        let _ = w.close(out);
         read(stdout, out);
     }
 }
 
-fn packet_edge(stdout: &impl Print, items: Label, kind: Kind, count: usize, room: usize)
+fn packet_edge(stdout: &impl Print, items: &str, kind: Kind, count: usize, room: usize)
     requires { room ≤ 131096 }
 {
     let mut out = buffer();
     show(stdout, items, count as u64);
-    show(stdout, ROOM, room as u64);
-    write(stdout, &mut out[0..room], kind, count);
+    show(stdout, "  room", room as u64);
+    write(stdout, &mut out[..room], kind, count);
 }
 
 fn write_edges(stdout: &impl Print) {
@@ -309,24 +233,24 @@ fn write_edges(stdout: &impl Print) {
     identifier_edge(stdout, 65535);
     identifier_edge(stdout, 65536);
     // 'Edges': 65,535 capabilities are written, 65,536 are 12. A packet of the first has 24 + 2 + 131,070 bytes.
-    packet_edge(stdout, CAPABILITIES, Kind::Capa, 65535, 131096);
-    packet_edge(stdout, CAPABILITIES, Kind::Capa, 65536, 131096);
+    packet_edge(stdout, "capabilities", Kind::Capa, 65535, 131096);
+    packet_edge(stdout, "capabilities", Kind::Capa, 65536, 131096);
     // 'Where a call stops': 13 where the output is shorter than the place after the call, and 12 before 13.
-    packet_edge(stdout, CAPABILITIES, Kind::Capa, 65535, 131095);
-    packet_edge(stdout, CAPABILITIES, Kind::Capa, 65536, 131095);
+    packet_edge(stdout, "capabilities", Kind::Capa, 65535, 131095);
+    packet_edge(stdout, "capabilities", Kind::Capa, 65536, 131095);
     // 'Edges': 256 laser feed names are 12. A packet of 255 has 24 + 5 + 255 * 4 bytes.
-    packet_edge(stdout, FEED_NAMES, Kind::LaserFeedList, 255, 1049);
-    packet_edge(stdout, FEED_NAMES, Kind::LaserFeedList, 256, 1049);
+    packet_edge(stdout, "laser feed names", Kind::LaserFeedList, 255, 1049);
+    packet_edge(stdout, "laser feed names", Kind::LaserFeedList, 256, 1049);
     // The count of points is a u16. They are not given, so the close is refused, and the size field that is read is 0.
-    packet_edge(stdout, POINTS, Kind::LaserFeedFrame, 65535, 35);
-    packet_edge(stdout, POINTS, Kind::LaserFeedFrame, 65536, 35);
+    packet_edge(stdout, "laser points", Kind::LaserFeedFrame, 65535, 35);
+    packet_edge(stdout, "laser points", Kind::LaserFeedFrame, 65536, 35);
     // Requests, 'Names that fit the display': at most 255 units or bytes, frame_names 65,535; a longer one is 19, and 19 before 13.
-    packet_edge(stdout, SHOW_NAME, Kind::EnterShow, 255, 536);
-    packet_edge(stdout, SHOW_NAME, Kind::EnterShow, 256, 536);
-    packet_edge(stdout, PEER_NAME, Kind::PNam, 255, 280);
-    packet_edge(stdout, PEER_NAME, Kind::PNam, 256, 280);
-    packet_edge(stdout, FRAME_NAMES, Kind::Fram, 65535, 65564);
-    packet_edge(stdout, FRAME_NAMES, Kind::Fram, 65536, 65564);
+    packet_edge(stdout, "show name, units", Kind::EnterShow, 255, 536);
+    packet_edge(stdout, "show name, units", Kind::EnterShow, 256, 536);
+    packet_edge(stdout, "peer name, bytes", Kind::PNam, 255, 280);
+    packet_edge(stdout, "peer name, bytes", Kind::PNam, 256, 280);
+    packet_edge(stdout, "frame names, bytes", Kind::Fram, 65535, 65564);
+    packet_edge(stdout, "frame names, bytes", Kind::Fram, 65536, 65564);
 }
 
 // ---- packets that a receiver does not support
@@ -339,25 +263,20 @@ CITP\x01\x00\x00\x00\x14\x00\x00\x00\x01\x00\x00\x00MSEX\
 CITP\x01\x00\x00\x00\x1B\x00\x00\x00\x01\x00\x00\x00SDMXSXUS\x03A\x00\
 CITP\x01\x00\x00\x00\x1A\x00\x00\x00\x01\x00\x00\x00SDMXChLs\x00\x00";
 
-fn show_offsets(stdout: &impl Print, offsets: &[usize]) {
-    let mut k = 0;
-    while k < offsets.len() {
-        show(stdout, OFFSET, offsets[k] as u64);
-        k += 1;
-    }
-}
-
 // What is answered on a list, and what it holds afterwards.
 fn list_edge(stdout: &impl Print, capabilities: &[u16], offsets: &mut [usize]) {
     let sent = SENT;
-    show(stdout, PLACES, offsets.len() as u64);
+    show(stdout, "offsets, places", offsets.len() as u64);
     let answer = list_unsupported(capabilities, &sent, offsets);
-    if answer.number != 0 {
-        show(stdout, REFUSED, answer.number as u64);
+    if answer.is_err() {
+        show_refused(stdout, Refusal::ShortOutput);
     }
-    show(stdout, COUNT, answer.count as u64);
-    show(stdout, STOP, answer.stop as u64);
-    show_offsets(stdout, offsets);
+    let found = answer.unwrap_or_else(|few| few.found);
+    show(stdout, "  count", found.count as u64);
+    show_stop(stdout, found.end.err());
+    for offset in offsets.iter() {
+        show(stdout, "  offset", *offset as u64);
+    }
 }
 
 fn list_edges(stdout: &impl Print) {

@@ -16,24 +16,28 @@ pub fn entry_of(fixture_identifier: u16, universe: u16, channel: u16, channel_co
 }
 
 // The four fields of an entry.
+#[tactic(auto, unfolding(patching::specs::Entry::identifier))]
 pub fn identifier(entry: u64) -> u64
     ensures { result ≡ identifier entry }
 {
     entry % 0x1_0000
 }
 
+#[tactic(auto, unfolding(patching::specs::Entry::universe))]
 pub fn universe(entry: u64) -> u64
     ensures { result ≡ universe entry }
 {
     entry / 0x1_0000_0000_0000
 }
 
+#[tactic(auto, unfolding(patching::specs::Entry::channel))]
 pub fn channel(entry: u64) -> u64
     ensures { result ≡ channel entry }
 {
     entry / 0x1_0000_0000 % 0x1_0000
 }
 
+#[tactic(auto, unfolding(patching::specs::Entry::channel_count))]
 pub fn channel_count(entry: u64) -> u64
     ensures { result ≡ channel_count entry }
 {
@@ -41,6 +45,7 @@ pub fn channel_count(entry: u64) -> u64
 }
 
 // Universe and channel in one number, the universe above: entries are listed by it.
+#[tactic(auto, unfolding(patching::specs::Entry::universe, patching::specs::Entry::channel))]
 pub fn place(entry: u64) -> u64
     ensures { (result ≡ universe entry * 65536 + channel entry) × (result < 4294967296) }
 {
@@ -59,7 +64,7 @@ pub fn misfits(entry: u64) -> bool
     ensures { result ≡ misfits entry }
 {
     let n = channel_count(entry);
-    n < 1 || 512 < channel(entry) + n
+    n == 0 || 512 < channel(entry) + n
 }
 
 // Whether an entry is listed before another.
@@ -73,17 +78,10 @@ pub fn before(entry: u64, other: u64) -> bool
 pub fn shares(entry: u64, other: u64) -> bool
     ensures { result ≡ shares entry other }
 {
-    if place(other) + channel_count(other) <= place(entry) {
-        return false;
-    }
-    if place(entry) + channel_count(entry) <= place(other) {
-        return false;
-    }
-    if channel_count(entry) < 1 {
-        return false;
-    }
-    if channel_count(other) < 1 {
-        return false;
-    }
-    universe(entry) == universe(other)
+    let other_end = place(other) + channel_count(other);
+    place(entry) < other_end
+        && place(other) < place(entry) + channel_count(entry)
+        && 0 < channel_count(entry)
+        && 0 < channel_count(other)
+        && universe(entry) == universe(other)
 }

@@ -8,13 +8,13 @@ ghost use Rattle.format.specs.View.{view};
 ghost use Rattle.protocol.specs.Layer.{FINF};
 ghost use Rattle.protocol.specs.Step.{read_body};
 ghost use Rattle.put.specs.Put.{capped, put_at};
-ghost use Rattle.finf.specs.Says.{sfra, fram, sfra_says, fram_says, message_says};
+ghost use Rattle.refusal.specs.Says.{answer_says};
+ghost use Rattle.finf.specs.Says.{sfra, fram, sfra_view, fram_view, message_kind, message_view};
+ghost use Rattle.wire.specs.Says.{says, message_says};
 
-use put::{
-    Put, cstring_size, holds_zero, more, over_limit, put_cstring, put_u8, put_u16, put_u16_list,
-    u16_list_size, u16_list_too_long, weigh,
-};
-use wire::{CString, CStringRead, Cursor, U8Read, U16List, U16ListRead, U16Read};
+use put::{Faults, cstring_size, list_size, put_cstring, put_list, put_u8, put_u16};
+use refusal::Refusal;
+use wire::{CString, Cursor, List};
 
 // The layer: its cookie, and the length of its headers with the base header.
 #[derive(Clone, Copy)]
@@ -29,50 +29,42 @@ impl Finf {
 // Send frames: asks for the frames of the fixtures named.
 #[derive(Clone, Copy)]
 pub struct SFra {
-    pub fixture_identifiers: U16List,
-}
-
-#[derive(Clone, Copy)]
-pub enum SFraRead {
-    Read(SFra, Cursor),
-    Refused(u8),
+    pub fixture_identifiers: List<u16, u16>,
 }
 
 impl SFra {
     pub const CONTENT_TYPE: u32 = 0x61724653;
 
-    pub fn read_from_bytes(body: &[u8]) -> SFraRead
-        ensures { sfra_says result ≡ view sfra body.now 0 }
+    pub fn read_from_bytes(body: &[u8]) -> Result<(SFra, Cursor), Refusal>
+        ensures { says sfra_view result ≡ view sfra body.now 0 }
     {
-        let c = Cursor { at: 0 };
-        let U16ListRead::Read(fixture_identifiers, c) = c.u16_list(body) else {
-            return SFraRead::Refused(7);
-        };
-        SFraRead::Read(
+        let (fixture_identifiers, c) = List::read(body, Cursor::START)?;
+        Ok((
             SFra {
                 fixture_identifiers,
             },
             c,
-        )
+        ))
     }
 
+    #[tactic(auto, unfolding(format::specs::Format::size))]
     pub fn size_bytes(fixture_identifiers: &[u16]) -> usize
         ensures { result ≡ capped (size sfra fixture_identifiers.now) }
     {
-        more(0, u16_list_size(fixture_identifiers))
+        list_size(fixture_identifiers)
     }
 
-    pub fn write_to_bytes(out: &mut [u8], at: usize, fixture_identifiers: &[u16]) -> Put
-        ensures { (result, out.new) ≡ put_at sfra fixture_identifiers.now at out.old }
+    pub fn write_to_bytes(
+        out: &mut [u8],
+        at: usize,
+        fixture_identifiers: &[u16],
+    ) -> Result<usize, Refusal>
+        ensures { (answer_says result, out.new) ≡ put_at sfra fixture_identifiers.now at out.old }
     {
-        let long = u16_list_too_long(fixture_identifiers);
-        let len = SFra::size_bytes(fixture_identifiers);
-        let number = weigh(false, false, long, at, len, out.len());
-        if number != 0 {
-            return Put { number, at };
-        }
-        let at = put_u16_list(out, at, fixture_identifiers);
-        Put { number: 0, at }
+        Faults::NONE
+            .list(fixture_identifiers)
+            .weigh(at, SFra::size_bytes(fixture_identifiers), out.len())?;
+        Ok(put_list(out, at, fixture_identifiers))
     }
 }
 
@@ -86,35 +78,19 @@ pub struct Fram {
     pub frame_names: CString,
 }
 
-#[derive(Clone, Copy)]
-pub enum FramRead {
-    Read(Fram, Cursor),
-    Refused(u8),
-}
-
 impl Fram {
     pub const CONTENT_TYPE: u32 = 0x6D617246;
     // The bytes of the longest `frame_names`.
     pub const NAMES_LIMIT: usize = 65_535;
 
-    pub fn read_from_bytes(body: &[u8]) -> FramRead
-        ensures { fram_says result ≡ view fram body.now 0 }
+    pub fn read_from_bytes(body: &[u8]) -> Result<(Fram, Cursor), Refusal>
+        ensures { says fram_view result ≡ view fram body.now 0 }
     {
-        let c = Cursor { at: 0 };
-        let U16Read::Read(fixture_identifier, c) = c.u16(body) else {
-            return FramRead::Refused(7);
-        };
-        let U8Read::Read(frame_filter_count, c) = c.u8(body) else {
-            return FramRead::Refused(7);
-        };
-        let U8Read::Read(frame_gobo_count, c) = c.u8(body) else {
-            return FramRead::Refused(7);
-        };
-        let answer = c.cstring(body, Fram::NAMES_LIMIT);
-        let CStringRead::Read(frame_names, c) = answer else {
-            return FramRead::Refused(answer.number());
-        };
-        FramRead::Read(
+        let (fixture_identifier, c) = Cursor::START.u16(body)?;
+        let (frame_filter_count, c) = c.u8(body)?;
+        let (frame_gobo_count, c) = c.u8(body)?;
+        let (frame_names, c) = c.cstring(body, Fram::NAMES_LIMIT)?;
+        Ok((
             Fram {
                 fixture_identifier,
                 frame_filter_count,
@@ -122,13 +98,14 @@ impl Fram {
                 frame_names,
             },
             c,
-        )
+        ))
     }
 
+    #[tactic(auto, unfolding(format::specs::Format::size))]
     pub fn size_bytes(frame_names: &[u8]) -> usize
         ensures { result ≡ capped (size fram (0, (0, (0, frame_names.now)))) }
     {
-        more(4, cstring_size(frame_names))
+        cstring_size(frame_names).saturating_add(4)
     }
 
     pub fn write_to_bytes(
@@ -138,21 +115,17 @@ impl Fram {
         frame_filter_count: u8,
         frame_gobo_count: u8,
         frame_names: &[u8],
-    ) -> Put
-        ensures { (result, out.new) ≡ put_at fram (fixture_identifier, (frame_filter_count, (frame_gobo_count, frame_names.now))) at out.old }
+    ) -> Result<usize, Refusal>
+        ensures { (answer_says result, out.new)
+            ≡ put_at fram (fixture_identifier, (frame_filter_count, (frame_gobo_count, frame_names.now))) at out.old }
     {
-        let zeros = holds_zero(frame_names);
-        let over = over_limit(frame_names.len(), Fram::NAMES_LIMIT);
-        let len = Fram::size_bytes(frame_names);
-        let number = weigh(zeros, over, false, at, len, out.len());
-        if number != 0 {
-            return Put { number, at };
-        }
+        Faults::NONE
+            .cstring(frame_names, Fram::NAMES_LIMIT)
+            .weigh(at, Fram::size_bytes(frame_names), out.len())?;
         let at = put_u16(out, at, fixture_identifier);
         let at = put_u8(out, at, frame_filter_count);
         let at = put_u8(out, at, frame_gobo_count);
-        let at = put_cstring(out, at, frame_names);
-        Put { number: 0, at }
+        Ok(put_cstring(out, at, frame_names))
     }
 }
 
@@ -163,28 +136,24 @@ pub enum Message {
     Fram(Fram),
 }
 
-// A message with the cursor behind its body; a content type of no kind that is read; a body that cannot be read.
-#[derive(Clone, Copy)]
-pub enum MessageRead {
-    Read(Message, Cursor),
-    Unknown,
-    Refused(u8),
-}
-
 impl Message {
-    pub fn read_from_bytes(content_type: u32, body: &[u8]) -> MessageRead
-        ensures { message_says result ≡ read_body FINF content_type body.now }
+    // A message with the cursor behind its body; none where its content type is of no kind that is read.
+    pub fn read_from_bytes(
+        content_type: u32,
+        body: &[u8],
+    ) -> Result<Option<(Message, Cursor)>, Refusal>
+        ensures { message_says message_kind message_view result ≡ read_body FINF content_type body.now }
     {
         match content_type {
-            SFra::CONTENT_TYPE => match SFra::read_from_bytes(body) {
-                SFraRead::Read(m, c) => MessageRead::Read(Message::SFra(m), c),
-                SFraRead::Refused(n) => MessageRead::Refused(n),
-            },
-            Fram::CONTENT_TYPE => match Fram::read_from_bytes(body) {
-                FramRead::Read(m, c) => MessageRead::Read(Message::Fram(m), c),
-                FramRead::Refused(n) => MessageRead::Refused(n),
-            },
-            _ => MessageRead::Unknown,
+            SFra::CONTENT_TYPE => {
+                let (m, c) = SFra::read_from_bytes(body)?;
+                Ok(Some((Message::SFra(m), c)))
+            }
+            Fram::CONTENT_TYPE => {
+                let (m, c) = Fram::read_from_bytes(body)?;
+                Ok(Some((Message::Fram(m), c)))
+            }
+            _ => Ok(None),
         }
     }
 }

@@ -1,10 +1,9 @@
--- Every pattern survives reading and writing, a NaN's too, and every float writing and reading; and what the code tests.
-use Prim.Native.Nat.{ℕ, ◌*◌, ◌^◌, ◌<◌}
-use mathlib.Core.Path.{◌≡◌, refl, sym, ap, ◌∙◌}
-use mathlib.Core.Bool.{Bool, true, false, not, ◌&&◌, ◌||◌, beq}
-use lib.Dec.{T, eqb, eqb_refl}
-use lib.Ieee.{Float, inf, fin, up, down, binary32, nan, is_nan, nan_bits, of_bits, to_bits, fits, ne, div}
-use lib.Ieee.Fits.{and_i}
+-- Every pattern survives reading and writing, a NaN's too, and every float writing and reading.
+use Prim.Native.Nat.{ℕ, ◌^◌, ◌<◌}
+use mathlib.Core.Path.{◌≡◌, refl, sym, ◌∙◌}
+use mathlib.Core.Bool.{Bool, true, false, not}
+use lib.Dec.{T}
+use lib.Ieee.{Float, inf, fin, binary32, nan, is_nan, nan_bits, of_bits, to_bits, fits}
 use lib.Ieee.Bits.{of_bits-to_bits, to_bits-of_bits, nan_bits_is}
 use Rattle.floats.specs.Pattern.{chosen, pattern_of}
 
@@ -38,29 +37,6 @@ read-chosen false n x beside e k f = of_bits-to_bits binary32 x f
 pub read-of-pattern : (x : Float) (beside : ℕ) → T (fits binary32 x) → of_bits binary32 (pattern_of x beside) ≡ x
 unfolding pattern_of
 read-of-pattern x beside f = read-chosen (is_nan x) (nan_bits binary32 beside) x beside refl refl f
-
--- ---- what the code tests
-
-true-is : (b : Bool) → T b → b ≡ true
-true-is true t = refl
-true-is false t = elim t [ ]
-
-level-self : (s : Bool) (n : ℕ) → (eqb n n && (beq s s || eqb n 0)) ≡ true
-level-self true n = true-is (eqb n n && true) (and_i (eqb n n) true (eqb_refl n) tt)
-level-self false n = true-is (eqb n n && true) (and_i (eqb n n) true (eqb_refl n) tt)
-
--- `x != x` tests for the NaN
-pub ne-self : (x : Float) → ne x x ≡ is_nan x
-unfolding ne is_nan
-ne-self nan = refl
-ne-self (inf true) = refl
-ne-self (inf false) = refl
-ne-self (fin s m e) = ap not (level-self s (m * up e * down e))
-
--- `0.0 / 0.0` is the NaN
-pub zero_by_zero : div binary32 (of_bits binary32 0) (of_bits binary32 0) ≡ nan
-unfolding div of_bits
-zero_by_zero = refl
 
 -- a NaN's pattern is read as the NaN
 pub nan-of-pattern : (pattern : ℕ) → nan_bits binary32 pattern ≡ true → of_bits binary32 pattern ≡ nan

@@ -2,26 +2,15 @@
 #![tactic(auto)]
 
 ghost use Rattle.std.specs.Prelude.{◌≡◌};
-ghost use Rattle.std.specs.Float.{binary32, nan};
-ghost use Rattle.std.specs.Float.Ieee.{is_nan, nan_bits, of_bits};
+ghost use Rattle.std.specs.Float.{binary32};
+ghost use Rattle.std.specs.Float.Ieee.{nan_bits, of_bits};
 ghost use Rattle.floats.specs.Pattern.{pattern_of};
 
+// `f32::from_bits` takes no NaN's pattern, so the pattern itself is tested.
 fn is_nan_pattern(pattern: u32) -> bool
     ensures { result ≡ nan_bits binary32 pattern }
 {
     pattern % 0x8000_0000 > 0x7f80_0000
-}
-
-fn nan_value() -> f32
-    ensures { result ≡ nan }
-{
-    0.0 / 0.0
-}
-
-fn is_nan(x: f32) -> bool
-    ensures { result ≡ is_nan x }
-{
-    x != x
 }
 
 // The float of a pattern.
@@ -29,21 +18,20 @@ pub fn f32_of(pattern: u32) -> f32
     ensures { result ≡ of_bits binary32 pattern }
 {
     if is_nan_pattern(pattern) {
-        nan_value()
-    } else {
-        f32::from_bits(pattern)
+        return f32::NAN;
     }
+    f32::from_bits(pattern)
 }
 
 // The pattern of a float that has a pattern beside it.
 pub fn pattern_of(x: f32, beside: u32) -> u32
     ensures { result ≡ pattern_of x beside }
 {
-    if is_nan(x) {
-        if is_nan_pattern(beside) {
-            return beside;
-        }
-        return 0x7fc0_0000;
+    if !x.is_nan() {
+        return x.to_bits();
     }
-    f32::to_bits(x)
+    if is_nan_pattern(beside) {
+        return beside;
+    }
+    0x7fc0_0000
 }

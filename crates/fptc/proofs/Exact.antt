@@ -1,43 +1,41 @@
--- What an answer says determines it: nothing is lost.
-use mathlib.Core.Path.{◌≡◌, refl}
+-- A view determines what is viewed: nothing is lost.
+use Rattle.std.proofs.Common.{◌≡◌, refl}
 use Rattle.format.specs.View.{View}
 use Rattle.protocol.specs.Kind as kind
 use Rattle.protocol.specs.Kind.{body_of}
-use Rattle.protocol.proofs.Bodies.{body_by, if_kind, as_kind}
-use Rattle.wire.proofs.Says.{read_by}
-use Rattle.fptc.specs.Says.{ptch, uptc, sptc, ptch_says, uptc_says, sptc_says}
-use Rattle.fptc.specs.Says.{message_kind, message_view, message_says}
+use Rattle.protocol.proofs.Bodies.{if_kind, as_kind}
+use Rattle.fptc.specs.Says.{ptch, uptc, sptc, ptch_view, uptc_view, sptc_view, message_kind, message_view}
 use Rattle.fptc.specs.declared.Ptch.{Ptch}
 use Rattle.fptc.specs.declared.UPtc.{UPtc}
 use Rattle.fptc.specs.declared.SPtc.{SPtc}
-use Rattle.fptc.specs.declared.PtchRead.{PtchRead}
-use Rattle.fptc.specs.declared.UPtcRead.{UPtcRead}
-use Rattle.fptc.specs.declared.SPtcRead.{SPtcRead}
 use Rattle.fptc.specs.declared.Message.{Message}
-use Rattle.fptc.specs.declared.MessageRead.{MessageRead}
-use Rattle.fptc.specs.declared.PtchRead.TheVariants as ptch-read
-use Rattle.fptc.specs.declared.UPtcRead.TheVariants as uptc-read
-use Rattle.fptc.specs.declared.SPtcRead.TheVariants as sptc-read
 use Rattle.fptc.specs.declared.Message.TheVariants as message
-use Rattle.fptc.specs.declared.MessageRead.TheVariants as answer
 
 abbrev ptch_of : View ptch → Ptch
-ptch_of (a, (b, (d, (f, (g, ((h, h'), (i, i'))))))) = record { fixture_identifier = a; universe = b; reserved = d; channel = f; channel_count = g; fixture_make = record { start = h; len = h' }; fixture_name = record { start = i; len = i' } }
+ptch_of (a, (b, (d, (f, (g, ((h, h'), (i, i'))))))) = record {
+  fixture_identifier = a;
+  universe = b;
+  reserved = d;
+  channel = f;
+  channel_count = g;
+  fixture_make = record { start = h; len = h' };
+  fixture_name = record { start = i; len = i' };
+}
 
-pub ptch-exact : (r : PtchRead) → r ≡ read_by ptch-read.Read ptch-read.Refused ptch_of (ptch_says r)
-ptch-exact = elim [ ptch-read.Read x c ↦ refl | ptch-read.Refused n ↦ refl ]
+pub ptch_view-exact : (x : Ptch) → x ≡ ptch_of (ptch_view x)
+ptch_view-exact x = refl
 
 abbrev uptc_of : View uptc → UPtc
-uptc_of (a, a') = record { fixture_identifiers = record { at = a; left = a' } }
+uptc_of (a, a') = record { fixture_identifiers = record { at = a; left = a'; of = record {} } }
 
-pub uptc-exact : (r : UPtcRead) → r ≡ read_by uptc-read.Read uptc-read.Refused uptc_of (uptc_says r)
-uptc-exact = elim [ uptc-read.Read x c ↦ refl | uptc-read.Refused n ↦ refl ]
+pub uptc_view-exact : (x : UPtc) → x ≡ uptc_of (uptc_view x)
+uptc_view-exact x = refl
 
 abbrev sptc_of : View sptc → SPtc
-sptc_of (a, a') = record { fixture_identifiers = record { at = a; left = a' } }
+sptc_of (a, a') = record { fixture_identifiers = record { at = a; left = a'; of = record {} } }
 
-pub sptc-exact : (r : SPtcRead) → r ≡ read_by sptc-read.Read sptc-read.Refused sptc_of (sptc_says r)
-sptc-exact = elim [ sptc-read.Read x c ↦ refl | sptc-read.Refused n ↦ refl ]
+pub sptc_view-exact : (x : SPtc) → x ≡ sptc_of (sptc_view x)
+sptc_view-exact x = refl
 
 -- ---- messages, a row for each kind
 
@@ -47,12 +45,7 @@ message_of k v =
     (if_kind kind.UPtc (λ x. message.UPtc (uptc_of x))
     (as_kind kind.SPtc (λ x. message.SPtc (sptc_of x)))) k v
 
-pub message-exact : (m : Message) → m ≡ message_of (message_kind m) (message_view m)
-message-exact (message.Ptch x) = refl
-message-exact (message.UPtc x) = refl
-message-exact (message.SPtc x) = refl
-
-pub message-read-exact : (r : MessageRead) → r ≡ body_by (λ k v e. answer.Read (message_of k v) (record { at = e })) answer.Unknown answer.Refused (message_says r)
-message-read-exact (answer.Read m c) = rw (← message-exact m) refl
-message-read-exact answer.Unknown = refl
-message-read-exact (answer.Refused n) = refl
+pub message_view-exact : (m : Message) → m ≡ message_of (message_kind m) (message_view m)
+message_view-exact (message.Ptch x) = refl
+message_view-exact (message.UPtc x) = refl
+message_view-exact (message.SPtc x) = refl

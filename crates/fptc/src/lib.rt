@@ -8,13 +8,13 @@ ghost use Rattle.format.specs.View.{view};
 ghost use Rattle.protocol.specs.Layer.{FPTC};
 ghost use Rattle.protocol.specs.Step.{read_body};
 ghost use Rattle.put.specs.Put.{capped, put_at, Writes};
-ghost use Rattle.fptc.specs.Says.{ptch, uptc, sptc, ptch_says, uptc_says, sptc_says, message_says};
+ghost use Rattle.refusal.specs.Says.{answer_says};
+ghost use Rattle.fptc.specs.Says.{ptch, uptc, sptc, ptch_view, uptc_view, sptc_view, message_kind, message_view};
+ghost use Rattle.wire.specs.Says.{says, message_says};
 
-use put::{
-    Put, cstring_size, either, holds_zero, more, over_limit, put_cstring, put_u8, put_u16,
-    put_u16_list, u16_list_size, u16_list_too_long, weigh,
-};
-use wire::{CString, CStringRead, Cursor, NAME_LIMIT, U8Read, U16List, U16ListRead, U16Read};
+use put::{Faults, cstring_size, list_size, put_cstring, put_list, put_u8, put_u16};
+use refusal::Refusal;
+use wire::{CString, Cursor, List, NAME_LIMIT};
 
 // The layer: its cookie, and the length of its headers with the base header.
 #[derive(Clone, Copy)]
@@ -43,43 +43,20 @@ pub struct Ptch {
     pub fixture_name: CString,
 }
 
-#[derive(Clone, Copy)]
-pub enum PtchRead {
-    Read(Ptch, Cursor),
-    Refused(u8),
-}
-
 impl Ptch {
     pub const CONTENT_TYPE: u32 = 0x68637450;
 
-    pub fn read_from_bytes(body: &[u8]) -> PtchRead
-        ensures { ptch_says result ≡ view ptch body.now 0 }
+    pub fn read_from_bytes(body: &[u8]) -> Result<(Ptch, Cursor), Refusal>
+        ensures { says ptch_view result ≡ view ptch body.now 0 }
     {
-        let c = Cursor { at: 0 };
-        let U16Read::Read(fixture_identifier, c) = c.u16(body) else {
-            return PtchRead::Refused(7);
-        };
-        let U8Read::Read(universe, c) = c.u8(body) else {
-            return PtchRead::Refused(7);
-        };
-        let U8Read::Read(reserved, c) = c.u8(body) else {
-            return PtchRead::Refused(7);
-        };
-        let U16Read::Read(channel, c) = c.u16(body) else {
-            return PtchRead::Refused(7);
-        };
-        let U16Read::Read(channel_count, c) = c.u16(body) else {
-            return PtchRead::Refused(7);
-        };
-        let answer = c.cstring(body, NAME_LIMIT);
-        let CStringRead::Read(fixture_make, c) = answer else {
-            return PtchRead::Refused(answer.number());
-        };
-        let answer = c.cstring(body, NAME_LIMIT);
-        let CStringRead::Read(fixture_name, c) = answer else {
-            return PtchRead::Refused(answer.number());
-        };
-        PtchRead::Read(
+        let (fixture_identifier, c) = Cursor::START.u16(body)?;
+        let (universe, c) = c.u8(body)?;
+        let (reserved, c) = c.u8(body)?;
+        let (channel, c) = c.u16(body)?;
+        let (channel_count, c) = c.u16(body)?;
+        let (fixture_make, c) = c.cstring(body, NAME_LIMIT)?;
+        let (fixture_name, c) = c.cstring(body, NAME_LIMIT)?;
+        Ok((
             Ptch {
                 fixture_identifier,
                 universe,
@@ -90,16 +67,16 @@ impl Ptch {
                 fixture_name,
             },
             c,
-        )
+        ))
     }
 
+    #[tactic(auto, unfolding(format::specs::Format::size))]
     pub fn size_bytes(fixture_make: &[u8], fixture_name: &[u8]) -> usize
         ensures { result ≡ capped (size ptch (0, (0, (0, (0, (0, (fixture_make.now, fixture_name.now))))))) }
     {
-        more(
-            8,
-            more(cstring_size(fixture_make), cstring_size(fixture_name)),
-        )
+        cstring_size(fixture_make)
+            .saturating_add(cstring_size(fixture_name))
+            .saturating_add(8)
     }
 
     fn put(
@@ -113,7 +90,9 @@ impl Ptch {
         fixture_make: &[u8],
         fixture_name: &[u8],
     ) -> usize
-        ensures { Writes ptch (fixture_identifier, (universe, (reserved, (channel, (channel_count, (fixture_make.now, fixture_name.now)))))) at out.old result out.new }
+        ensures { Writes ptch
+            (fixture_identifier, (universe, (reserved, (channel, (channel_count, (fixture_make.now, fixture_name.now))))))
+            at out.old result out.new }
     {
         let at = put_u16(out, at, fixture_identifier);
         let at = put_u8(out, at, universe);
@@ -134,20 +113,16 @@ impl Ptch {
         channel_count: u16,
         fixture_make: &[u8],
         fixture_name: &[u8],
-    ) -> Put
-        ensures { (result, out.new) ≡ put_at ptch (fixture_identifier, (universe, (reserved, (channel, (channel_count, (fixture_make.now, fixture_name.now)))))) at out.old }
+    ) -> Result<usize, Refusal>
+        ensures { (answer_says result, out.new) ≡ put_at ptch
+            (fixture_identifier, (universe, (reserved, (channel, (channel_count, (fixture_make.now, fixture_name.now))))))
+            at out.old }
     {
-        let zeros = either(holds_zero(fixture_make), holds_zero(fixture_name));
-        let over = either(
-            over_limit(fixture_make.len(), NAME_LIMIT),
-            over_limit(fixture_name.len(), NAME_LIMIT),
-        );
-        let len = Ptch::size_bytes(fixture_make, fixture_name);
-        let number = weigh(zeros, over, false, at, len, out.len());
-        if number != 0 {
-            return Put { number, at };
-        }
-        let at = Ptch::put(
+        Faults::NONE
+            .cstring(fixture_make, NAME_LIMIT)
+            .cstring(fixture_name, NAME_LIMIT)
+            .weigh(at, Ptch::size_bytes(fixture_make, fixture_name), out.len())?;
+        Ok(Ptch::put(
             out,
             at,
             fixture_identifier,
@@ -157,108 +132,91 @@ impl Ptch {
             channel_count,
             fixture_make,
             fixture_name,
-        );
-        Put { number: 0, at }
+        ))
     }
 }
 
 // Unpatch: the fixtures that are unpatched; with none named, all of them.
 #[derive(Clone, Copy)]
 pub struct UPtc {
-    pub fixture_identifiers: U16List,
-}
-
-#[derive(Clone, Copy)]
-pub enum UPtcRead {
-    Read(UPtc, Cursor),
-    Refused(u8),
+    pub fixture_identifiers: List<u16, u16>,
 }
 
 impl UPtc {
     pub const CONTENT_TYPE: u32 = 0x63745055;
 
-    pub fn read_from_bytes(body: &[u8]) -> UPtcRead
-        ensures { uptc_says result ≡ view uptc body.now 0 }
+    pub fn read_from_bytes(body: &[u8]) -> Result<(UPtc, Cursor), Refusal>
+        ensures { says uptc_view result ≡ view uptc body.now 0 }
     {
-        let c = Cursor { at: 0 };
-        let U16ListRead::Read(fixture_identifiers, c) = c.u16_list(body) else {
-            return UPtcRead::Refused(7);
-        };
-        UPtcRead::Read(
+        let (fixture_identifiers, c) = List::read(body, Cursor::START)?;
+        Ok((
             UPtc {
                 fixture_identifiers,
             },
             c,
-        )
+        ))
     }
 
+    #[tactic(auto, unfolding(format::specs::Format::size))]
     pub fn size_bytes(fixture_identifiers: &[u16]) -> usize
         ensures { result ≡ capped (size uptc fixture_identifiers.now) }
     {
-        more(0, u16_list_size(fixture_identifiers))
+        list_size(fixture_identifiers)
     }
 
-    pub fn write_to_bytes(out: &mut [u8], at: usize, fixture_identifiers: &[u16]) -> Put
-        ensures { (result, out.new) ≡ put_at uptc fixture_identifiers.now at out.old }
+    pub fn write_to_bytes(
+        out: &mut [u8],
+        at: usize,
+        fixture_identifiers: &[u16],
+    ) -> Result<usize, Refusal>
+        ensures { (answer_says result, out.new) ≡ put_at uptc fixture_identifiers.now at out.old }
     {
-        let long = u16_list_too_long(fixture_identifiers);
-        let len = UPtc::size_bytes(fixture_identifiers);
-        let number = weigh(false, false, long, at, len, out.len());
-        if number != 0 {
-            return Put { number, at };
-        }
-        let at = put_u16_list(out, at, fixture_identifiers);
-        Put { number: 0, at }
+        Faults::NONE
+            .list(fixture_identifiers)
+            .weigh(at, UPtc::size_bytes(fixture_identifiers), out.len())?;
+        Ok(put_list(out, at, fixture_identifiers))
     }
 }
 
 // Send patch: asks for the patch of the fixtures named; with none named, for all of it.
 #[derive(Clone, Copy)]
 pub struct SPtc {
-    pub fixture_identifiers: U16List,
-}
-
-#[derive(Clone, Copy)]
-pub enum SPtcRead {
-    Read(SPtc, Cursor),
-    Refused(u8),
+    pub fixture_identifiers: List<u16, u16>,
 }
 
 impl SPtc {
     pub const CONTENT_TYPE: u32 = 0x63745053;
 
-    pub fn read_from_bytes(body: &[u8]) -> SPtcRead
-        ensures { sptc_says result ≡ view sptc body.now 0 }
+    pub fn read_from_bytes(body: &[u8]) -> Result<(SPtc, Cursor), Refusal>
+        ensures { says sptc_view result ≡ view sptc body.now 0 }
     {
-        let c = Cursor { at: 0 };
-        let U16ListRead::Read(fixture_identifiers, c) = c.u16_list(body) else {
-            return SPtcRead::Refused(7);
-        };
-        SPtcRead::Read(
+        let (fixture_identifiers, c) = List::read(body, Cursor::START)?;
+        Ok((
             SPtc {
                 fixture_identifiers,
             },
             c,
-        )
+        ))
     }
 
+    #[tactic(auto, unfolding(format::specs::Format::size))]
     pub fn size_bytes(fixture_identifiers: &[u16]) -> usize
         ensures { result ≡ capped (size sptc fixture_identifiers.now) }
     {
-        more(0, u16_list_size(fixture_identifiers))
+        list_size(fixture_identifiers)
     }
 
-    pub fn write_to_bytes(out: &mut [u8], at: usize, fixture_identifiers: &[u16]) -> Put
-        ensures { (result, out.new) ≡ put_at sptc fixture_identifiers.now at out.old }
+    pub fn write_to_bytes(
+        out: &mut [u8],
+        at: usize,
+        fixture_identifiers: &[u16],
+    ) -> Result<usize, Refusal>
+        ensures { (answer_says result, out.new) ≡ put_at sptc fixture_identifiers.now at out.old }
     {
-        let long = u16_list_too_long(fixture_identifiers);
-        let len = SPtc::size_bytes(fixture_identifiers);
-        let number = weigh(false, false, long, at, len, out.len());
-        if number != 0 {
-            return Put { number, at };
-        }
-        let at = put_u16_list(out, at, fixture_identifiers);
-        Put { number: 0, at }
+        Faults::NONE
+            .list(fixture_identifiers)
+            .weigh(at, SPtc::size_bytes(fixture_identifiers), out.len())?;
+        Ok(put_list(out, at, fixture_identifiers))
     }
 }
 
@@ -270,32 +228,28 @@ pub enum Message {
     SPtc(SPtc),
 }
 
-// A message with the cursor behind its body; a content type of no kind that is read; a body that cannot be read.
-#[derive(Clone, Copy)]
-pub enum MessageRead {
-    Read(Message, Cursor),
-    Unknown,
-    Refused(u8),
-}
-
 impl Message {
-    pub fn read_from_bytes(content_type: u32, body: &[u8]) -> MessageRead
-        ensures { message_says result ≡ read_body FPTC content_type body.now }
+    // A message with the cursor behind its body; none where its content type is of no kind that is read.
+    pub fn read_from_bytes(
+        content_type: u32,
+        body: &[u8],
+    ) -> Result<Option<(Message, Cursor)>, Refusal>
+        ensures { message_says message_kind message_view result ≡ read_body FPTC content_type body.now }
     {
         match content_type {
-            Ptch::CONTENT_TYPE => match Ptch::read_from_bytes(body) {
-                PtchRead::Read(m, c) => MessageRead::Read(Message::Ptch(m), c),
-                PtchRead::Refused(n) => MessageRead::Refused(n),
-            },
-            UPtc::CONTENT_TYPE => match UPtc::read_from_bytes(body) {
-                UPtcRead::Read(m, c) => MessageRead::Read(Message::UPtc(m), c),
-                UPtcRead::Refused(n) => MessageRead::Refused(n),
-            },
-            SPtc::CONTENT_TYPE => match SPtc::read_from_bytes(body) {
-                SPtcRead::Read(m, c) => MessageRead::Read(Message::SPtc(m), c),
-                SPtcRead::Refused(n) => MessageRead::Refused(n),
-            },
-            _ => MessageRead::Unknown,
+            Ptch::CONTENT_TYPE => {
+                let (m, c) = Ptch::read_from_bytes(body)?;
+                Ok(Some((Message::Ptch(m), c)))
+            }
+            UPtc::CONTENT_TYPE => {
+                let (m, c) = UPtc::read_from_bytes(body)?;
+                Ok(Some((Message::UPtc(m), c)))
+            }
+            SPtc::CONTENT_TYPE => {
+                let (m, c) = SPtc::read_from_bytes(body)?;
+                Ok(Some((Message::SPtc(m), c)))
+            }
+            _ => Ok(None),
         }
     }
 }

@@ -8,10 +8,13 @@ ghost use Rattle.format.specs.View.{view};
 ghost use Rattle.protocol.specs.Layer.{FSEL};
 ghost use Rattle.protocol.specs.Step.{read_body};
 ghost use Rattle.put.specs.Put.{capped, put_at};
-ghost use Rattle.fsel.specs.Says.{sele, dese, sele_says, dese_says, message_says};
+ghost use Rattle.refusal.specs.Says.{answer_says};
+ghost use Rattle.fsel.specs.Says.{sele, dese, sele_view, dese_view, message_kind, message_view};
+ghost use Rattle.wire.specs.Says.{says, message_says};
 
-use put::{Put, more, put_u8, put_u16_list, u16_list_size, u16_list_too_long, weigh};
-use wire::{Cursor, U8Read, U16List, U16ListRead};
+use put::{Faults, list_size, put_list, put_u8};
+use refusal::Refusal;
+use wire::{Cursor, List};
 
 // The layer: its cookie, and the length of its headers with the base header.
 #[derive(Clone, Copy)]
@@ -30,45 +33,33 @@ pub struct Sele {
     pub complete: u8,
     // 4-byte alignment
     pub reserved: u8,
-    pub fixture_identifiers: U16List,
-}
-
-#[derive(Clone, Copy)]
-pub enum SeleRead {
-    Read(Sele, Cursor),
-    Refused(u8),
+    pub fixture_identifiers: List<u16, u16>,
 }
 
 impl Sele {
     pub const CONTENT_TYPE: u32 = 0x656C6553;
 
-    pub fn read_from_bytes(body: &[u8]) -> SeleRead
-        ensures { sele_says result ≡ view sele body.now 0 }
+    pub fn read_from_bytes(body: &[u8]) -> Result<(Sele, Cursor), Refusal>
+        ensures { says sele_view result ≡ view sele body.now 0 }
     {
-        let c = Cursor { at: 0 };
-        let U8Read::Read(complete, c) = c.u8(body) else {
-            return SeleRead::Refused(7);
-        };
-        let U8Read::Read(reserved, c) = c.u8(body) else {
-            return SeleRead::Refused(7);
-        };
-        let U16ListRead::Read(fixture_identifiers, c) = c.u16_list(body) else {
-            return SeleRead::Refused(7);
-        };
-        SeleRead::Read(
+        let (complete, c) = Cursor::START.u8(body)?;
+        let (reserved, c) = c.u8(body)?;
+        let (fixture_identifiers, c) = List::read(body, c)?;
+        Ok((
             Sele {
                 complete,
                 reserved,
                 fixture_identifiers,
             },
             c,
-        )
+        ))
     }
 
+    #[tactic(auto, unfolding(format::specs::Format::size))]
     pub fn size_bytes(fixture_identifiers: &[u16]) -> usize
         ensures { result ≡ capped (size sele (0, (0, fixture_identifiers.now))) }
     {
-        more(2, u16_list_size(fixture_identifiers))
+        list_size(fixture_identifiers).saturating_add(2)
     }
 
     pub fn write_to_bytes(
@@ -77,69 +68,57 @@ impl Sele {
         complete: u8,
         reserved: u8,
         fixture_identifiers: &[u16],
-    ) -> Put
-        ensures { (result, out.new) ≡ put_at sele (complete, (reserved, fixture_identifiers.now)) at out.old }
+    ) -> Result<usize, Refusal>
+        ensures { (answer_says result, out.new) ≡ put_at sele (complete, (reserved, fixture_identifiers.now)) at out.old }
     {
-        let long = u16_list_too_long(fixture_identifiers);
-        let len = Sele::size_bytes(fixture_identifiers);
-        let number = weigh(false, false, long, at, len, out.len());
-        if number != 0 {
-            return Put { number, at };
-        }
+        Faults::NONE
+            .list(fixture_identifiers)
+            .weigh(at, Sele::size_bytes(fixture_identifiers), out.len())?;
         let at = put_u8(out, at, complete);
         let at = put_u8(out, at, reserved);
-        let at = put_u16_list(out, at, fixture_identifiers);
-        Put { number: 0, at }
+        Ok(put_list(out, at, fixture_identifiers))
     }
 }
 
 // Deselect: the fixtures to deselect, with none named all of them.
 #[derive(Clone, Copy)]
 pub struct DeSe {
-    pub fixture_identifiers: U16List,
-}
-
-#[derive(Clone, Copy)]
-pub enum DeSeRead {
-    Read(DeSe, Cursor),
-    Refused(u8),
+    pub fixture_identifiers: List<u16, u16>,
 }
 
 impl DeSe {
     pub const CONTENT_TYPE: u32 = 0x65536544;
 
-    pub fn read_from_bytes(body: &[u8]) -> DeSeRead
-        ensures { dese_says result ≡ view dese body.now 0 }
+    pub fn read_from_bytes(body: &[u8]) -> Result<(DeSe, Cursor), Refusal>
+        ensures { says dese_view result ≡ view dese body.now 0 }
     {
-        let c = Cursor { at: 0 };
-        let U16ListRead::Read(fixture_identifiers, c) = c.u16_list(body) else {
-            return DeSeRead::Refused(7);
-        };
-        DeSeRead::Read(
+        let (fixture_identifiers, c) = List::read(body, Cursor::START)?;
+        Ok((
             DeSe {
                 fixture_identifiers,
             },
             c,
-        )
+        ))
     }
 
+    #[tactic(auto, unfolding(format::specs::Format::size))]
     pub fn size_bytes(fixture_identifiers: &[u16]) -> usize
         ensures { result ≡ capped (size dese fixture_identifiers.now) }
     {
-        more(0, u16_list_size(fixture_identifiers))
+        list_size(fixture_identifiers)
     }
 
-    pub fn write_to_bytes(out: &mut [u8], at: usize, fixture_identifiers: &[u16]) -> Put
-        ensures { (result, out.new) ≡ put_at dese fixture_identifiers.now at out.old }
+    pub fn write_to_bytes(
+        out: &mut [u8],
+        at: usize,
+        fixture_identifiers: &[u16],
+    ) -> Result<usize, Refusal>
+        ensures { (answer_says result, out.new) ≡ put_at dese fixture_identifiers.now at out.old }
     {
-        let long = u16_list_too_long(fixture_identifiers);
-        let len = DeSe::size_bytes(fixture_identifiers);
-        let number = weigh(false, false, long, at, len, out.len());
-        if number != 0 {
-            return Put { number, at };
-        }
-        let at = put_u16_list(out, at, fixture_identifiers);
-        Put { number: 0, at }
+        Faults::NONE
+            .list(fixture_identifiers)
+            .weigh(at, DeSe::size_bytes(fixture_identifiers), out.len())?;
+        Ok(put_list(out, at, fixture_identifiers))
     }
 }
 
@@ -150,28 +129,24 @@ pub enum Message {
     DeSe(DeSe),
 }
 
-// A message with the cursor behind its body; a content type of no kind that is read; a body that cannot be read.
-#[derive(Clone, Copy)]
-pub enum MessageRead {
-    Read(Message, Cursor),
-    Unknown,
-    Refused(u8),
-}
-
 impl Message {
-    pub fn read_from_bytes(content_type: u32, body: &[u8]) -> MessageRead
-        ensures { message_says result ≡ read_body FSEL content_type body.now }
+    // A message with the cursor behind its body; none where its content type is of no kind that is read.
+    pub fn read_from_bytes(
+        content_type: u32,
+        body: &[u8],
+    ) -> Result<Option<(Message, Cursor)>, Refusal>
+        ensures { message_says message_kind message_view result ≡ read_body FSEL content_type body.now }
     {
         match content_type {
-            Sele::CONTENT_TYPE => match Sele::read_from_bytes(body) {
-                SeleRead::Read(m, c) => MessageRead::Read(Message::Sele(m), c),
-                SeleRead::Refused(n) => MessageRead::Refused(n),
-            },
-            DeSe::CONTENT_TYPE => match DeSe::read_from_bytes(body) {
-                DeSeRead::Read(m, c) => MessageRead::Read(Message::DeSe(m), c),
-                DeSeRead::Refused(n) => MessageRead::Refused(n),
-            },
-            _ => MessageRead::Unknown,
+            Sele::CONTENT_TYPE => {
+                let (m, c) = Sele::read_from_bytes(body)?;
+                Ok(Some((Message::Sele(m), c)))
+            }
+            DeSe::CONTENT_TYPE => {
+                let (m, c) = DeSe::read_from_bytes(body)?;
+                Ok(Some((Message::DeSe(m), c)))
+            }
+            _ => Ok(None),
         }
     }
 }

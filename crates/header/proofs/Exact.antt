@@ -1,17 +1,13 @@
--- What the answer says determines it: nothing is lost.
-use mathlib.Core.Path.{◌≡◌, refl}
-use Rattle.format.specs.View.{View, Seen, seen, missed}
-use Rattle.protocol.specs.Layer.{header}
-use Rattle.header.specs.Says.{header_says}
-use Rattle.header.specs.declared.HeaderRead.{HeaderRead}
-use Rattle.header.specs.declared.HeaderRead.TheVariants as header_answer
+-- A header's fields determine it: nothing is lost.
+use Rattle.std.proofs.Common.{◌≡◌, refl}
+use Rattle.format.specs.Format.{Value}
+use Rattle.protocol.specs.Layer as layer
+use Rattle.header.specs.Says.{header_value}
+use Rattle.header.specs.declared.Header.{Header}
 
-abbrev header_read : Seen (View header) → HeaderRead
-header_read (seen (a, (b, (d, (f, (g, (h, (i, j))))))) e) = header_answer.Read
-    (record { cookie = a; version_major = b; version_minor = d; request_index = f; message_size = g; message_part_count = h; message_part = i; content_type = j })
-    (record { at = e })
-header_read (missed n) = header_answer.Refused n
+abbrev header_of : Value layer.header → Header
+header_of (a, (b, (d, (f, (g, (h, (i, j))))))) =
+    record { cookie = a; version_major = b; version_minor = d; request_index = f; message_size = g; message_part_count = h; message_part = i; content_type = j }
 
-pub header-exact : (r : HeaderRead) → r ≡ header_read (header_says r)
-header-exact (header_answer.Read h c) = refl
-header-exact (header_answer.Refused n) = refl
+pub header_value-exact : (h : Header) → h ≡ header_of (header_value h)
+header_value-exact h = refl

@@ -1,12 +1,11 @@
 -- The code's layers are the definition's, and the lookup's answer is what it says: nothing is lost.
-use mathlib.Core.Path.{◌≡◌, refl, ap}
-use mathlib.Core.Option.{Option, none, some}
+use Rattle.std.proofs.Common.{◌≡◌, refl, ap}
+use Rattle.std.proofs.Math.Option as math
+use Rattle.std.specs.Prelude.{Option, Some, None}
 use Rattle.protocol.specs.Layer as layer
 use Rattle.layers.specs.Says.{layer_is, layer_says}
 use Rattle.layers.specs.declared.Layer.{Layer}
-use Rattle.layers.specs.declared.LayerFound.{LayerFound}
 use Rattle.layers.specs.declared.Layer.TheVariants as layer-case
-use Rattle.layers.specs.declared.LayerFound.TheVariants as found
 
 abbrev pub is_layer : layer.Layer → Layer
 is_layer layer.PINF = layer-case.Pinf
@@ -24,10 +23,10 @@ layer-exact layer-case.Fsel = refl
 layer-exact layer-case.Finf = refl
 layer-exact layer-case.Caex = refl
 
-abbrev is_found : Option layer.Layer → LayerFound
-is_found (some l) = found.Known (is_layer l)
-is_found none = found.Unknown
+abbrev is_found : math.Option layer.Layer → Option Layer
+is_found (math.some l) = Some (is_layer l)
+is_found math.none = None
 
-pub found-exact : (r : LayerFound) → r ≡ is_found (layer_says r)
-found-exact (found.Known l) = ap found.Known (layer-exact l)
-found-exact found.Unknown = refl
+pub found-exact : (r : Option Layer) → r ≡ is_found (layer_says r)
+found-exact (Some l) = ap (λ (x : Layer). Some x) (layer-exact l)
+found-exact None = refl

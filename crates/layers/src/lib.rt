@@ -13,7 +13,7 @@ use header::Header;
 use pinf::Pinf;
 use sdmx::Sdmx;
 
-#[derive(Clone, Copy)]
+#[derive(Clone, Copy, PartialEq, Eq, Debug)]
 pub enum Layer {
     Pinf,
     Sdmx,
@@ -23,36 +23,20 @@ pub enum Layer {
     Caex,
 }
 
-#[derive(Clone, Copy)]
-pub enum LayerFound {
-    Known(Layer),
-    Unknown,
-}
-
 impl Layer {
     // The layer of a cookie: the first in the order below that has it.
-    pub fn of(cookie: u32) -> LayerFound
+    pub fn of(cookie: u32) -> Option<Layer>
         ensures { layer_says result ≡ layer_of cookie }
     {
-        if cookie == Sdmx::COOKIE {
-            return LayerFound::Known(Layer::Sdmx);
+        match cookie {
+            Sdmx::COOKIE => Some(Layer::Sdmx),
+            Fptc::COOKIE => Some(Layer::Fptc),
+            Fsel::COOKIE => Some(Layer::Fsel),
+            Finf::COOKIE => Some(Layer::Finf),
+            Pinf::COOKIE => Some(Layer::Pinf),
+            Caex::COOKIE => Some(Layer::Caex),
+            _ => None,
         }
-        if cookie == Fptc::COOKIE {
-            return LayerFound::Known(Layer::Fptc);
-        }
-        if cookie == Fsel::COOKIE {
-            return LayerFound::Known(Layer::Fsel);
-        }
-        if cookie == Finf::COOKIE {
-            return LayerFound::Known(Layer::Finf);
-        }
-        if cookie == Pinf::COOKIE {
-            return LayerFound::Known(Layer::Pinf);
-        }
-        if cookie == Caex::COOKIE {
-            return LayerFound::Known(Layer::Caex);
-        }
-        LayerFound::Unknown
     }
 
     pub fn cookie(self) -> u32

@@ -1,8 +1,9 @@
 -- The lines of each field as a write of its parts: what `search` makes the answers of the functions from.
-use Prim.Native.Nat.{ℕ, ◌≤◌}
-use mathlib.Core.Path.{◌≡◌, refl}
+use Prim.Native.Nat.{ℕ, ◌-◌, min}
+use mathlib.Core.Path.{◌≡◌, refl, ◌∙◌}
 use mathlib.Core.List.{List}
 use native.Mathlib.Omega.{arith}
+use Rattle.std.proofs.lemmas.List.{drop_min}
 use lib.ListN.{length, take, drop, length-drop}
 use lib.Seq.{take_all}
 use Rattle.format.specs.Format.{Format, concat_map}
@@ -83,15 +84,13 @@ pub prints-bytes : (name s o o' t : List ℕ) (p r from start n : ℕ) → t ≡
     → Prints from (line name (escaped (take n (drop start s)))) p o r o'
 prints-bytes name s o o' t p r from start n e a = rw e at a
 
--- a body's length is enough to reach its end
-pub prints-units : (name s o o' t : List ℕ) (p r from start n : ℕ)
-    → t ≡ take (length s) (drop start s) → Prints from (line name (escaped (units_of n t))) p o r o'
-    → Prints from (line name (escaped (units_of n (drop start s)))) p o r o'
-prints-units name s o o' t p r from start n e a =
-    let h : length (drop start s) ≤ length s = omega (arith, length-drop start s) in
-    rw (e, take_all (length s) (drop start s) h) at a
+-- the bytes from an offset on, none where it is past the body
+pub bytes_from : (s : List ℕ) (i : ℕ) → take (length s - min i (length s)) (drop (min i (length s)) s) ≡ drop i s
+bytes_from s i =
+    let start = min i (length s) in
+    take_all (length s - start) (drop start s) (omega (arith, length-drop start s)) ∙ drop_min i s
 
-pub ruleset strings = (refl, prints-bytes, prints-units)
+pub ruleset strings = (refl, prints-bytes)
 
 pub ruleset fields = (
   refl,

@@ -1,15 +1,18 @@
--- The items of a list, listed by a loop that steps through it.
+-- The items of a list, listed by a loop that steps through it: what a step tells.
 use Prim.Native.Nat.{ℕ, zero, suc, ◌<◌}
-use mathlib.Core.Path.{◌≡◌, refl, ◌∙◌}
+use mathlib.Core.Path.{◌≡◌, refl, sym, subst}
 use mathlib.Core.List.{List, [], ◌++◌}
 use native.Mathlib.Omega.{arith}
 use Rattle.format.specs.Format.{Format, concat_map}
 use Rattle.format.specs.View.{View, Seen, seen, missed, view, Next, item, done, broken, stepped, steps}
-use Rattle.format.proofs.Chain.{met}
 use Rattle.format.proofs.Look.{stepped-at}
+use Rattle.std.specs.Prelude.{Result, Option}
+use Rattle.refusal.specs.declared.Refusal.{Refusal}
+use Rattle.wire.specs.Says.{next_says}
+use Rattle.wire.specs.declared.List as wire
 use Rattle.text.specs.Prints.{Prints}
 use Rattle.text.proofs.Loops.{Onto, onto-more, onto-all}
-use Rattle.lines.specs.Lines.{Listed, lines, item_lines, Lists}
+use Rattle.lines.specs.Lines.{Form, Listed, lines, item_lines, Lists}
 
 -- what a step tells of the lines of what is left
 module _ {f : Format} (l : Listed f) (s : List ℕ) (at : ℕ) where
@@ -27,22 +30,23 @@ module _ {f : Format} (l : Listed f) (s : List ℕ) (at : ℕ) where
   told : (n : ℕ) {x : Next (View f)} → stepped f s at n ≡ x → Told n x
   told n e = rw e at (by n (view f s at) refl)
 
--- the rules of the loop, over any answer R of a step: what it says, its cases; L is what is left of the list
-pub record Itemized (f : Format) {R A L : Type 0} (says : R → Next (View f)) (next : A → L → R) (end : R) (refused : ℕ → R) (at left : L → ℕ) (value : A → View f) : Type 0 where
-  pub less : (s : List ℕ) (r : R) (a : A) (x y : L) → says r ≡ stepped f s (at x) (left x) → r ≡ next a y → left y < left x
-  pub goes_on : {from : ℕ} (l : Listed f) (s : List ℕ) (r : R) (a : A) (x y : L) {whole o o' o₀ : List ℕ} {p q q' : ℕ} → says r ≡ stepped f s (at x) (left x) → r ≡ next a y
-      → Onto from (item_lines l s (at x) (left x)) q o whole p o₀ → Lists from l s (value a) q o q' o' → Onto from (item_lines l s (at y) (left y)) q' o' whole p o₀
-  pub ends : {from : ℕ} (l : Listed f) (s : List ℕ) (r : R) (x : L) {whole o o₀ : List ℕ} {p q : ℕ} → says r ≡ stepped f s (at x) (left x) → r ≡ end
-      → Onto from (item_lines l s (at x) (left x)) q o whole p o₀ → Prints from whole p o₀ q o
-  pub stops : {from : ℕ} (l : Listed f) (s : List ℕ) (r : R) (k : ℕ) (x : L) {whole o o₀ : List ℕ} {p q : ℕ} → says r ≡ stepped f s (at x) (left x) → r ≡ refused k
-      → Onto from (item_lines l s (at x) (left x)) q o whole p o₀ → Prints from whole p o₀ q o
+  -- an item that was listed, and what is left behind it
+  pub less : {e m : ℕ} {v : View f} (n : ℕ) → item v e m ≡ stepped f s at n → m < n
+  less n e = (told n (sym e)).0
 
-pub itemized : (f : Format) {R A L : Type 0} (says : R → Next (View f)) (next : A → L → R) (end : R) (refused : ℕ → R) (at left : L → ℕ) (value : A → View f)
-    → Listed f → ((a : A) (x : L) → says (next a x) ≡ item (value a) (at x) (left x)) → says end ≡ done → ((k : ℕ) → says (refused k) ≡ broken k)
-    → Itemized f says next end refused at left value
-itemized f says next end refused at left value any means means-end means-refused = record {
-  less = λ s r a x y t i. (told any s (at x) (left x) (met says t i ∙ means a y)).0;
-  goes_on = λ l s r a x y t i o b. onto-more (told l s (at x) (left x) (met says t i ∙ means a y)).1 o b.puts;
-  ends = λ l s r x t i o. onto-all (told l s (at x) (left x) (met says t i ∙ means-end)) o;
-  stops = λ l s r k x t i o. onto-all (told l s (at x) (left x) (met says t i ∙ means-refused k)) o;
-}
+  pub goes_on : {from e m p q q' : ℕ} {v : View f} {whole o o' o₀ : List ℕ} (n : ℕ) → item v e m ≡ stepped f s at n
+      → Onto from (item_lines l s at n) q o whole p o₀ → Lists from l s v q o q' o' → Onto from (item_lines l s e m) q' o' whole p o₀
+  goes_on n e a b = onto-more (told n (sym e)).1 a b.puts
+
+  -- no item left
+  pub ends : {from p q : ℕ} {whole o o₀ : List ℕ} (n : ℕ) → done ≡ stepped f s at n → Onto from (item_lines l s at n) q o whole p o₀ → Prints from whole p o₀ q o
+  ends n e a = onto-all (told n (sym e)) a
+
+  -- an item that does not read
+  pub stops : {from k p q : ℕ} {whole o o₀ : List ℕ} (n : ℕ) → broken k ≡ stepped f s at n → Onto from (item_lines l s at n) q o whole p o₀ → Prints from whole p o₀ q o
+  stops n e a = onto-all (told n (sym e)) a
+
+-- a step by the form under which an item is listed
+pub listed-step : {A N : Type 0} {form : Form A} {f : Format} {of : A → View f} (count : N → ℕ) (r : Result (Option (A × wire.List A N)) Refusal) (s : List ℕ) (at n : ℕ)
+    → form ≡ (f, of) → next_says of count r ≡ stepped f s at n → next_says form.1 count r ≡ stepped form.0 s at n
+listed-step {A = A} count r s at n same e = subst (λ (x : Form A). next_says x.1 count r ≡ stepped x.0 s at n) (sym same) e

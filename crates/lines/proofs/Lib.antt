@@ -1,4 +1,3 @@
 pub mod Fields
 pub mod Items
-pub mod Loops
 pub mod Injective

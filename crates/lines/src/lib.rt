@@ -2,15 +2,18 @@
 // each function answers the place behind its text, or the output's end.
 #![tactic(auto)]
 
-ghost use Rattle.std.specs.Prelude.{drop};
+ghost use Rattle.std.specs.Prelude.{drop, ◌≡◌, refl};
+ghost use Rattle.format.specs.Format.{number};
 ghost use Rattle.text.specs.Prints.{Prints};
 ghost use Rattle.text.specs.Text.{escaped, line};
-ghost use Rattle.format.specs.Format.{concat_map};
 ghost use Rattle.format.specs.View.{units_of};
-ghost use Rattle.lines.specs.Lines.{decimal, each, block, digits, decimal_line, range_of, item_lines, Lists};
+ghost use Rattle.lines.specs.Lines.{Form, Listed, decimal, each, block, digits, decimal_line, range_of, item_lines, Lists};
 
-use text::{put_decimal_line, put_escaped_line, put_escaped_units_line, put_hex_block_line};
-use wire::{Block, CString, U16List, U16Next, U32List, U32Next, Ucs2};
+use text::{
+    ByteText, put_decimal_line, put_each, put_escaped_line, put_escaped_units_line,
+    put_hex_block_line,
+};
+use wire::{Block, CString, Count, Item, List, Ucs2};
 
 // ---- strings
 
@@ -32,31 +35,24 @@ pub fn put_ucs2(out: &mut [u8], from: u32, at: usize, name: &[u8], x: Ucs2, body
     ensures { Prints from (line name.now (escaped (units_of x.len (drop x.start body.now))))
         at out.old result out.new }
 {
-    let rest = Block {
-        start: x.start,
-        len: body.len(),
-    };
-    put_escaped_units_line(out, from, at, name, rest.bytes(body), x.len)
+    let start = x.start.min(body.len());
+    put_escaped_units_line(out, from, at, name, &body[start..], x.len)
 }
 
 // ---- blocks
 
-fn put_byte(out: &mut [u8], from: u32, at: usize, name: &[u8], n: u8) -> usize
-    ensures { Prints from (decimal_line name.now n) at out.old result out.new }
-{
-    put_decimal_line(out, from, at, name, n as usize)
+// A byte in a line of its own.
+#[derive(Clone, Copy)]
+struct ByteLine<'a> {
+    name: &'a [u8],
 }
 
-fn put_bytes(out: &mut [u8], from: u32, at: usize, name: &[u8], s: &[u8]) -> usize
-    ensures { Prints from (concat_map (decimal_line name.now) s.now) at out.old result out.new }
-{
-    let mut next = at;
-    let mut i = 0;
-    while i < s.len() {
-        next = put_byte(out, from, next, name, s[i]);
-        i += 1;
+impl ByteText for ByteLine<'_> {
+    ghost text = { λ x byte. decimal_line x.name.now byte };
+
+    fn put(self, out: &mut [u8], from: u32, at: usize, byte: u8) -> usize {
+        put_decimal_line(out, from, at, self.name, usize::from(byte))
     }
-    next
 }
 
 // A byte a line.
@@ -72,7 +68,7 @@ pub fn put_block(
     ensures { Lists from (block {w = 2} count.now name.now) body.now (x.start, x.len) at out.old result out.new }
 {
     let at = put_decimal_line(out, from, at, count, x.len);
-    put_bytes(out, from, at, name, x.bytes(body))
+    put_each(out, from, at, x.bytes(body), ByteLine { name })
 }
 
 // All digits in one line.
@@ -91,61 +87,85 @@ pub fn put_digits(
     put_hex_block_line(out, from, at, name, x.bytes(body))
 }
 
-// ---- lists of numbers
+// ---- lists
 
-fn put_u16_items(
+// How an item of a list is listed.
+pub trait ItemLines<T: Item>: Copy {
+    ghost form: { Form T };
+
+    ghost listed: { Self → Listed form.0 };
+
+    fn put(self, out: &mut [u8], from: u32, at: usize, x: T, body: &[u8]) -> usize
+        ensures { Lists from (listed self) body.now (form.1 x) at out.old result out.new };
+
+    // Its form is the one by which an item is read.
+    ghost read_so: { form ≡ (T.format, T.item_view) };
+}
+
+fn put_items<T: Item, N: Count, P: ItemLines<T>>(
     out: &mut [u8],
     from: u32,
     at: usize,
-    name: &[u8],
-    list: U16List,
+    list: List<T, N>,
     body: &[u8],
+    p: P,
 ) -> usize
-    ensures { Prints from (item_lines (decimal {w = 2} name.now) body.now list.at list.left) at out.old result out.new }
+    ensures { Prints from (item_lines (P.listed p) body.now list.at (N.number list.left)) at out.old result out.new }
 {
     let mut next = at;
     let mut rest = list;
-    loop {
-        match rest.next(body) {
-            U16Next::Item(n, more) => {
-                next = put_decimal_line(out, from, next, name, n as usize);
-                rest = more;
-            }
-            U16Next::Done => {
-                return next;
-            }
-            U16Next::Refused(_) => {
-                return next;
-            }
-        }
+    while let Ok(Some((x, more))) = rest.next(body) {
+        next = p.put(out, from, next, x, body);
+        rest = more;
+    }
+    next
+}
+
+// The count, then the items.
+pub fn put_list<T: Item, N: Count, P: ItemLines<T>>(
+    out: &mut [u8],
+    from: u32,
+    at: usize,
+    count: &[u8],
+    list: List<T, N>,
+    body: &[u8],
+    p: P,
+) -> usize
+    ensures { Lists from (each {w = N.width} count.now (P.listed p)) body.now (list.at, N.number list.left) at out.old result out.new }
+{
+    let at = put_decimal_line(out, from, at, count, list.left.items());
+    put_items(out, from, at, list, body, p)
+}
+
+// ---- lists of numbers
+
+// A number in a line of its own.
+#[derive(Clone, Copy)]
+struct NumberLine<'a> {
+    name: &'a [u8],
+}
+
+impl ItemLines<u16> for NumberLine<'_> {
+    ghost form = { (number 2, λ n. n) };
+
+    ghost listed = { λ p. decimal p.name.now };
+
+    ghost read_so = { refl };
+
+    fn put(self, out: &mut [u8], from: u32, at: usize, x: u16, body: &[u8]) -> usize {
+        put_decimal_line(out, from, at, self.name, usize::from(x))
     }
 }
 
-fn put_u32_items(
-    out: &mut [u8],
-    from: u32,
-    at: usize,
-    name: &[u8],
-    list: U32List,
-    body: &[u8],
-) -> usize
-    ensures { Prints from (item_lines (decimal {w = 4} name.now) body.now list.at list.left) at out.old result out.new }
-{
-    let mut next = at;
-    let mut rest = list;
-    loop {
-        match rest.next(body) {
-            U32Next::Item(n, more) => {
-                next = put_decimal_line(out, from, next, name, n as usize);
-                rest = more;
-            }
-            U32Next::Done => {
-                return next;
-            }
-            U32Next::Refused(_) => {
-                return next;
-            }
-        }
+impl ItemLines<u32> for NumberLine<'_> {
+    ghost form = { (number 4, λ n. n) };
+
+    ghost listed = { λ p. decimal p.name.now };
+
+    ghost read_so = { refl };
+
+    fn put(self, out: &mut [u8], from: u32, at: usize, x: u32, body: &[u8]) -> usize {
+        put_decimal_line(out, from, at, self.name, x as usize)
     }
 }
 
@@ -155,13 +175,12 @@ pub fn put_u16_list(
     at: usize,
     count: &[u8],
     name: &[u8],
-    list: U16List,
+    list: List<u16, u16>,
     body: &[u8],
 ) -> usize
     ensures { Lists from (each {w = 2} count.now (decimal {w = 2} name.now)) body.now (list.at, list.left) at out.old result out.new }
 {
-    let at = put_decimal_line(out, from, at, count, list.left as usize);
-    put_u16_items(out, from, at, name, list, body)
+    put_list::<u16, _, _>(out, from, at, count, list, body, NumberLine { name })
 }
 
 pub fn put_u32_list(
@@ -170,11 +189,10 @@ pub fn put_u32_list(
     at: usize,
     count: &[u8],
     name: &[u8],
-    list: U32List,
+    list: List<u32, u16>,
     body: &[u8],
 ) -> usize
     ensures { Lists from (each {w = 2} count.now (decimal {w = 4} name.now)) body.now (list.at, list.left) at out.old result out.new }
 {
-    let at = put_decimal_line(out, from, at, count, list.left as usize);
-    put_u32_items(out, from, at, name, list, body)
+    put_list::<u32, _, _>(out, from, at, count, list, body, NumberLine { name })
 }

@@ -1,25 +1,18 @@
 -- The listing of a stream, written packet by packet.
 use Prim.Native.Nat.{ℕ, suc, ◌+◌, ◌-◌, ◌≤◌, ◌<◌}
-use mathlib.Core.Path.{◌≡◌, refl, ◌∙◌}
+use mathlib.Core.Path.{◌≡◌, refl, sym, ◌∙◌}
 use mathlib.Core.List.{List, ◌++◌, append_assoc}
 use native.Mathlib.Nat.{zero-add, add-zero, sub-zero, zero-sub}
 use native.Mathlib.Omega.{arith}
-use borrow.Author.Rules as kit
 use lib.ListN.{length, drop}
 use lib.Seq.{sets}
 use Rattle.format.specs.Format.{concat_map}
 use Rattle.format.specs.View.{View}
 use Rattle.format.specs.Walk.{Step, stop, report, Walked, follow, walk_from}
-use Rattle.format.proofs.Chain.{met}
 use Rattle.protocol.specs.Step.{Report, step_at, walk}
 use Rattle.protocol.proofs.Steps.{moved}
 use Rattle.text.specs.Prints.{Prints}
 use Rattle.text.proofs.Loops.{Onto, onto-none, onto-more}
-use Rattle.citp.specs.Says.{packet_says, step_says}
-use Rattle.citp.specs.declared.Cursor.{Cursor}
-use Rattle.citp.specs.declared.PacketReport.{PacketReport}
-use Rattle.citp.specs.declared.Step as declared
-use Rattle.citp.specs.declared.Step.TheVariants as step
 use Rattle.listing.specs.Listing.{report_lines, end_lines, ended_lines, listing, Part}
 
 -- ---- the loop
@@ -47,38 +40,30 @@ from : (s : List ℕ) (n at : ℕ) → n ≤ length s → {x : Step (Report View
 unfolding walk_from
 from s n at h e = let f : suc (length s) - n ≡ suc (suc (length s) - (n + 1)) = omega arith in rw (f, e) refl
 
-module _ {s : List ℕ} {n : ℕ} {x : declared.Step} {c : Cursor} {o o₀ : List ℕ} {p q : ℕ} where
-  pub walking-less : {from : ℕ} {y : PacketReport} {d : Cursor} → step_says x ≡ step_at s c.at → x ≡ step.Packet y d → Walking from s n c.at q o p o₀
-      → length s - d.at < length s - c.at
-  walking-less t i w = let m = moved s c.at (met step_says t i) in omega (arith, m.on, m.within)
+module _ {s : List ℕ} {n at p q : ℕ} {o o₀ : List ℕ} where
+  pub walking-less : {from e : ℕ} {y : Report View} → report y e ≡ step_at s at → Walking from s n at q o p o₀ → length s - e < length s - at
+  walking-less t w = let m = moved s at (sym t) in omega (arith, m.on, m.within)
 
-  pub walking-more : {from : ℕ} {y : PacketReport} {d : Cursor} {o' : List ℕ} {q' : ℕ} → step_says x ≡ step_at s c.at → x ≡ step.Packet y d → Walking from s n c.at q o p o₀
-      → Prints from (report_lines s (packet_says y)) q o q' o' → Walking from s (n + 1) d.at q' o' p o₀
+  pub walking-more : {from e : ℕ} {y : Report View} {o' : List ℕ} {q' : ℕ} → report y e ≡ step_at s at → Walking from s n at q o p o₀
+      → Prints from (report_lines s y) q o q' o' → Walking from s (n + 1) e q' o' p o₀
   unfolding concat_map
-  walking-more {y = y} {d = d} t i w a =
-      let e : step_at s c.at ≡ report (packet_says y) d.at = met step_says t i in
-      let m = moved s c.at e in
+  walking-more {e = e} {y = y} t w a =
+      let m = moved s at (sym t) in
       let k : n ≤ length s = omega (arith, w.counted, w.within) in
-      let more = walk_from step_at (suc (length s) - (n + 1)) s d.at in
+      let more = walk_from step_at (suc (length s) - (n + 1)) s e in
       let f : n + suc (length more.0) ≡ n + 1 + length more.0 = omega arith in
       record {
         counted = omega (arith, w.counted, m.on);
         within = m.within;
-        onto = onto-more (rw (from s n c.at k e, f, append_assoc) refl) w.onto a;
+        onto = onto-more (rw (from s n at k (sym t), f, append_assoc) refl) w.onto a;
       }
 
-  pub walking-end : {from : ℕ} {number offset : ℕ} {o' : List ℕ} {q' : ℕ} → step_says x ≡ step_at s c.at → x ≡ step.End number offset → Walking from s n c.at q o p o₀
+  pub walking-end : {from number offset : ℕ} {o' : List ℕ} {q' : ℕ} → stop number offset ≡ step_at s at → Walking from s n at q o p o₀
       → Prints from (end_lines n number) q o q' o' → Prints from (listing s) p o₀ q' o'
   unfolding concat_map
-  walking-end {number = number} {offset = offset} t i w a =
-      let e : step_at s c.at ≡ stop number offset = met step_says t i in
+  walking-end t w a =
       let k : n ≤ length s = omega (arith, w.counted, w.within) in
-      w.onto.whole_of (rw (from s n c.at k e, add-zero) a)
-
-pub walking-length : {from : ℕ} {s o o₀ : List ℕ} {n at p q : ℕ} → Walking from s n at q o p o₀ → length o ≡ length o₀
-walking-length w = w.onto.length-of
-
-pub ruleset needs = (kit.rules, walking-none, walking-less, walking-more, walking-end, walking-length)
+      w.onto.whole_of (rw (from s n at k (sym t), add-zero) a)
 
 -- ---- a part of the listing
 
@@ -86,8 +71,5 @@ module _ {from end : ℕ} {text before after : List ℕ} (a : Prints from text 0
   held : after ≡ sets before 0 (drop from text)
   held = a.stored ∙ rw (zero-sub, sub-zero) refl
 
-  pub part_none : end < from → Part text from before 0 after
-  part_none h = record { counts = omega (arith, a.stops); holds = held }
-
-  pub part-some : from ≤ end → Part text from before (end - from) after
-  part-some h = record { counts = omega (arith, a.stops); holds = held }
+  pub part : Part text from before (end - from) after
+  part = record { counts = omega (arith, a.stops); holds = held }

@@ -4,13 +4,16 @@
 
 ghost use Rattle.std.proofs.Math.Option.{none, some};
 ghost use Rattle.text.specs.Prints.{Prints};
+ghost use Rattle.refusal.specs.Number.{number};
 ghost use Rattle.names.specs.Messages.{message_lines};
 ghost use Rattle.citp.specs.Says.{message_kind, message_hint, message_view, report_says, packet_says};
-ghost use Rattle.listing.specs.Listing.{message_report, unknown_report, fragment_report, refusal_report, content_lines, report_lines, end_lines, listing, Part};
+ghost use Rattle.listing.specs.Listing.{message_report, unknown_report, fragment_report, refusal_report};
+ghost use Rattle.listing.specs.Listing.{content_lines, report_lines, end_lines, listing, Part};
 
 use caex_messages::put_caex;
-use citp::{Cursor, Message, PacketReport, Report, Step};
-use messages::{put_finf, put_fptc, put_fsel, put_pinf, put_sdmx};
+use citp::{Cursor, Message, PacketReport, Report};
+use messages::put_hinted_message;
+use refusal::Refusal;
 use text::{put_chars_line, put_decimal_line, put_hex_line};
 
 // ---- what a packet holds
@@ -19,11 +22,11 @@ fn put_message_lines(out: &mut [u8], from: u32, at: usize, m: Message, body: &[u
     ensures { Prints from (message_lines (message_kind m) (message_hint m) body.now (message_view m)) at out.old result out.new }
 {
     match m {
-        Message::Pinf(x) => put_pinf(out, from, at, x, body),
-        Message::Sdmx(x) => put_sdmx(out, from, at, x, body),
-        Message::Fptc(x, content_hint) => put_fptc(out, from, at, x, content_hint, body),
-        Message::Fsel(x) => put_fsel(out, from, at, x, body),
-        Message::Finf(x) => put_finf(out, from, at, x, body),
+        Message::Pinf(x) => messages::put_message(out, from, at, x, body),
+        Message::Sdmx(x) => messages::put_message(out, from, at, x, body),
+        Message::Fptc(x, hint) => put_hinted_message(out, from, at, x, hint, body),
+        Message::Fsel(x) => messages::put_message(out, from, at, x, body),
+        Message::Finf(x) => messages::put_message(out, from, at, x, body),
         Message::Caex(x) => put_caex(out, from, at, x, body),
     }
 }
@@ -59,8 +62,7 @@ pub fn put_unknown_kind(
 ) -> usize
     ensures { Prints from (unknown_report cookie (some content_type)) at out.old result out.new }
 {
-    let at = put_chars_line(out, from, at, b"report", b"unknown");
-    let at = put_hex_line(out, from, at, b"layer", cookie as usize);
+    let at = put_unknown_layer(out, from, at, cookie);
     put_hex_line(out, from, at, b"type", content_type as usize)
 }
 
@@ -72,20 +74,18 @@ pub fn put_fragment(out: &mut [u8], from: u32, at: usize, part: u16, count: u16)
     put_decimal_line(out, from, at, b"of", count as usize)
 }
 
-pub fn put_refusal(out: &mut [u8], from: u32, at: usize, number: u8) -> usize
-    ensures { Prints from (refusal_report number) at out.old result out.new }
+pub fn put_refusal(out: &mut [u8], from: u32, at: usize, refusal: Refusal) -> usize
+    ensures { Prints from (refusal_report (number refusal)) at out.old result out.new }
 {
     let at = put_chars_line(out, from, at, b"report", b"refused");
-    put_decimal_line(out, from, at, b"refusal", number as usize)
+    put_decimal_line(out, from, at, b"refusal", refusal.number() as usize)
 }
 
 fn put_content(out: &mut [u8], from: u32, at: usize, p: PacketReport, s: &[u8]) -> usize
     ensures { Prints from (content_lines s.now p.size (report_says p.report)) at out.old result out.new }
 {
-    let body = p.body(s);
-    let report = p.report;
-    match report {
-        Report::Message(m, _, added) => put_message(out, from, at, m, added, body),
+    match p.report {
+        Report::Message(m, _, added) => put_message(out, from, at, m, added, p.body(s)),
         Report::UnknownLayer(cookie) => put_unknown_layer(out, from, at, cookie),
         Report::UnknownKind(cookie, content_type) => put_unknown_kind(
             out,
@@ -95,7 +95,7 @@ fn put_content(out: &mut [u8], from: u32, at: usize, p: PacketReport, s: &[u8]) 
             content_type,
         ),
         Report::Fragment(part, count) => put_fragment(out, from, at, part, count),
-        Report::Refused(number) => put_refusal(out, from, at, number),
+        Report::Refused(refusal) => put_refusal(out, from, at, refusal),
     }
 }
 
@@ -123,30 +123,25 @@ pub fn put_listing(out: &mut [u8], from: u32, at: usize, s: &[u8]) -> usize
     ensures { Prints from (listing s.now) at out.old result out.new }
 {
     let mut next = at;
-    let mut c = Cursor { at: 0 };
+    let mut c = Cursor::new();
     let mut packets = 0;
-    loop {
+    let number = loop {
         match c.step(s) {
-            Step::Packet(p, more) => {
+            Ok(Some((p, more))) => {
                 next = put_report(out, from, next, p, s);
                 c = more;
                 packets += 1;
             }
-            Step::End(number, _) => {
-                return put_end(out, from, next, packets, number);
-            }
+            Ok(None) => break 0,
+            Err(refusal) => break refusal.number(),
         }
-    }
+    };
+    put_end(out, from, next, packets, number)
 }
 
 // The listing of the stream s from a character on, as much of it as the output holds; answers how many characters these are.
 pub fn list_from(out: &mut [u8], from: u32, s: &[u8]) -> usize
     ensures { Part (listing s.now) from out.old result out.new }
 {
-    let end = put_listing(out, from, 0, s);
-    let start = from as usize;
-    if end < start {
-        return 0;
-    }
-    end - start
+    put_listing(out, from, 0, s).saturating_sub(from as usize)
 }

@@ -2,48 +2,76 @@
 // each function answers the place behind its text, or the output's end.
 #![tactic(auto)]
 
-ghost use Rattle.std.specs.Prelude.{◌≡◌, ◌++◌};
+ghost use Rattle.std.specs.Prelude.{◌≡◌, refl};
 ghost use Rattle.std.proofs.Math.Option.{none, some};
-ghost use Rattle.format.specs.Format.{encode_number};
 ghost use Rattle.text.specs.Prints.{Prints};
-ghost use Rattle.text.specs.Text.{chars, decimal, line};
+ghost use Rattle.text.specs.Text.{chars};
 ghost use Rattle.protocol.specs.Kind as kind;
-ghost use Rattle.protocol.specs.Kind.{name_limit};
-ghost use Rattle.lines.specs.Lines.{bytes, item_lines, ◌and◌, Lists};
+ghost use Rattle.protocol.specs.Kind.{Kind, body_of, name_limit, channel_level_format};
+ghost use Rattle.format.specs.View.{View};
+ghost use Rattle.lines.specs.Lines.{bytes, ◌and◌, Lists};
 ghost use Rattle.pinf.specs.Says as pinf_says;
 ghost use Rattle.sdmx.specs.Says as sdmx_says;
+ghost use Rattle.sdmx.specs.Says.{channel_level_view};
 ghost use Rattle.fptc.specs.Says as fptc_says;
 ghost use Rattle.fsel.specs.Says as fsel_says;
 ghost use Rattle.finf.specs.Says as finf_says;
 ghost use Rattle.names.specs.Names as names;
+ghost use Rattle.names.specs.Names.{kind_name};
 ghost use Rattle.names.specs.Messages.{message_lines};
 
-use finf::{Fram, SFra};
-use fptc::{Ptch, SPtc, UPtc};
-use fsel::{DeSe, Sele};
-use lines::{put_block, put_cstring, put_u16_list};
-use pinf::{PLoc, PNam};
-use sdmx::{Capa, ChBk, ChLs, ChannelLevel, ChannelLevels, ChannelLevelsNext, UNam};
+use finf::Fram;
+use fptc::Ptch;
+use fsel::Sele;
+use lines::{ItemLines, put_block, put_cstring, put_list, put_u16_list};
+use pinf::PLoc;
+use sdmx::{ChBk, ChannelLevel};
 use text::{put_chars_line, put_decimal_line};
-use wire::{CString, U16List};
+use wire::{CString, List};
 
-// The letters of a content type, as they stand on the wire.
-fn letters(content_type: u32) -> [u8; 4]
-    ensures { result ≡ encode_number 4 content_type }
-{
-    [
-        (content_type % 256) as u8,
-        (content_type / 256 % 256) as u8,
-        (content_type / 256 / 256 % 256) as u8,
-        (content_type / 256 / 256 / 256 % 256) as u8,
-    ]
+// How a message of a layer is listed.
+pub trait MessageLines: Copy {
+    ghost kind: { Self → Kind };
+
+    ghost view: { (m : Self) → View (body_of (kind m)) };
+
+    // The name of its kind.
+    fn name(self) -> &'static [u8]
+        ensures { result.now ≡ chars (kind_name (kind self)) };
+
+    fn put_fields(self, out: &mut [u8], from: u32, at: usize, body: &[u8]) -> usize
+        ensures { Lists from (names.listed (kind self)) body.now (view self) at out.old result out.new };
 }
 
-// A kind by the letters of its content type, which are its name.
-fn put_kind(out: &mut [u8], from: u32, at: usize, content_type: u32) -> usize
-    ensures { Prints from (line (chars "kind") (encode_number 4 content_type)) at out.old result out.new }
+// A message of a layer without a content hint.
+pub fn put_message<M: MessageLines>(
+    out: &mut [u8],
+    from: u32,
+    at: usize,
+    m: M,
+    body: &[u8],
+) -> usize
+    ensures { Prints from (message_lines (M.kind m) none body.now (M.view m)) at out.old result out.new }
 {
-    put_chars_line(out, from, at, b"kind", &letters(content_type))
+    let at = put_chars_line(out, from, at, b"kind", m.name());
+    m.put_fields(out, from, at, body)
+}
+
+// A message with its content hint.
+pub fn put_hinted_message<M: MessageLines>(
+    out: &mut [u8],
+    from: u32,
+    at: usize,
+    m: M,
+    content_hint: u32,
+    body: &[u8],
+) -> usize
+    ensures { Prints from (message_lines (M.kind m) (some content_hint) body.now (M.view m)) at out.old result out.new }
+{
+    let name = m.name();
+    let at = put_chars_line(out, from, at, b"kind", name);
+    let at = put_decimal_line(out, from, at, b"content_hint", content_hint as usize);
+    m.put_fields(out, from, at, body)
 }
 
 // The list that five kinds end with.
@@ -51,7 +79,7 @@ fn put_fixture_identifiers(
     out: &mut [u8],
     from: u32,
     at: usize,
-    list: U16List,
+    list: List<u16, u16>,
     body: &[u8],
 ) -> usize
     ensures { Lists from (names.numbers_of {w = 2} {v = 2} "fixture_identifiers") body.now (list.at, list.left) at out.old result out.new }
@@ -84,26 +112,27 @@ fn put_ploc(out: &mut [u8], from: u32, at: usize, x: PLoc, body: &[u8]) -> usize
     put_cstring(out, from, at, b"state", x.state, body)
 }
 
-// A message of PINF.
-pub fn put_pinf(out: &mut [u8], from: u32, at: usize, m: pinf::Message, body: &[u8]) -> usize
-    ensures { Prints from (message_lines (pinf_says.message_kind m) none body.now (pinf_says.message_view m)) at out.old result out.new }
-{
-    match m {
-        pinf::Message::PNam(x) => {
-            let at = put_kind(out, from, at, PNam::CONTENT_TYPE);
-            put_cstring(out, from, at, b"name", x.name, body)
+impl MessageLines for pinf::Message {
+    ghost kind = { pinf_says.message_kind };
+
+    ghost view = { pinf_says.message_view };
+
+    fn name(self) -> &'static [u8] {
+        match self {
+            pinf::Message::PNam(_) => b"PNam",
+            pinf::Message::PLoc(_) => b"PLoc",
         }
-        pinf::Message::PLoc(x) => {
-            let at = put_kind(out, from, at, PLoc::CONTENT_TYPE);
-            put_ploc(out, from, at, x, body)
+    }
+
+    fn put_fields(self, out: &mut [u8], from: u32, at: usize, body: &[u8]) -> usize {
+        match self {
+            pinf::Message::PNam(x) => put_cstring(out, from, at, b"name", x.name, body),
+            pinf::Message::PLoc(x) => put_ploc(out, from, at, x, body),
         }
     }
 }
 
 // ---- SDMX
-
-// The letters of `Sxus`; its content type has capitals.
-const SXUS_NAME: u32 = 0x73757853;
 
 // A universe and a string of it.
 fn put_universe(
@@ -139,56 +168,42 @@ fn put_chbk(out: &mut [u8], from: u32, at: usize, x: ChBk, body: &[u8]) -> usize
     )
 }
 
-fn put_channel_level(out: &mut [u8], from: u32, at: usize, x: ChannelLevel, body: &[u8]) -> usize
-    ensures { Lists from names.channel_level body.now (sdmx_says.channel_level_view x) at out.old result out.new }
-{
-    let at = put_decimal_line(out, from, at, b"universe_index", x.universe_index as usize);
-    let at = put_decimal_line(out, from, at, b"channel", x.channel as usize);
-    put_decimal_line(out, from, at, b"channel_level", x.channel_level as usize)
-}
+// The fields of a record.
+#[derive(Clone, Copy)]
+struct LevelLines;
 
-fn put_channel_levels(
-    out: &mut [u8],
-    from: u32,
-    at: usize,
-    list: ChannelLevels,
-    body: &[u8],
-) -> usize
-    ensures { Prints from (item_lines names.channel_level body.now list.at list.left) at out.old result out.new }
-{
-    let mut next = at;
-    let mut rest = list;
-    loop {
-        match rest.next(body) {
-            ChannelLevelsNext::Item(x, more) => {
-                next = put_channel_level(out, from, next, x, body);
-                rest = more;
-            }
-            ChannelLevelsNext::Done => {
-                return next;
-            }
-            ChannelLevelsNext::Refused(_) => {
-                return next;
-            }
-        }
+impl ItemLines<ChannelLevel> for LevelLines {
+    ghost form = { (channel_level_format, channel_level_view) };
+
+    ghost listed = { λ _. names.channel_level };
+
+    ghost read_so = { refl };
+
+    fn put(self, out: &mut [u8], from: u32, at: usize, x: ChannelLevel, body: &[u8]) -> usize {
+        let at = put_decimal_line(out, from, at, b"universe_index", x.universe_index as usize);
+        let at = put_decimal_line(out, from, at, b"channel", x.channel as usize);
+        put_decimal_line(out, from, at, b"channel_level", x.channel_level as usize)
     }
 }
 
-fn put_chls(out: &mut [u8], from: u32, at: usize, list: ChannelLevels, body: &[u8]) -> usize
-    ensures { Lists from (names.listed kind.ChLs) body.now (list.at, list.left) at out.old result out.new }
-{
-    let at = put_decimal_line(out, from, at, b"channel_levels.count", list.left as usize);
-    put_channel_levels(out, from, at, list, body)
-}
+impl MessageLines for sdmx::Message {
+    ghost kind = { sdmx_says.message_kind };
 
-// A message of SDMX.
-pub fn put_sdmx(out: &mut [u8], from: u32, at: usize, m: sdmx::Message, body: &[u8]) -> usize
-    ensures { Prints from (message_lines (sdmx_says.message_kind m) none body.now (sdmx_says.message_view m)) at out.old result out.new }
-{
-    match m {
-        sdmx::Message::Capa(x) => {
-            let at = put_kind(out, from, at, Capa::CONTENT_TYPE);
-            put_u16_list(
+    ghost view = { sdmx_says.message_view };
+
+    fn name(self) -> &'static [u8] {
+        match self {
+            sdmx::Message::Capa(_) => b"Capa",
+            sdmx::Message::UNam(_) => b"UNam",
+            sdmx::Message::ChBk(_) => b"ChBk",
+            sdmx::Message::ChLs(_) => b"ChLs",
+            sdmx::Message::Sxus(_) => b"Sxus",
+        }
+    }
+
+    fn put_fields(self, out: &mut [u8], from: u32, at: usize, body: &[u8]) -> usize {
+        match self {
+            sdmx::Message::Capa(x) => put_u16_list(
                 out,
                 from,
                 at,
@@ -196,11 +211,8 @@ pub fn put_sdmx(out: &mut [u8], from: u32, at: usize, m: sdmx::Message, body: &[
                 b"capabilities",
                 x.capabilities,
                 body,
-            )
-        }
-        sdmx::Message::UNam(x) => {
-            let at = put_kind(out, from, at, UNam::CONTENT_TYPE);
-            put_universe(
+            ),
+            sdmx::Message::UNam(x) => put_universe(
                 out,
                 from,
                 at,
@@ -208,19 +220,18 @@ pub fn put_sdmx(out: &mut [u8], from: u32, at: usize, m: sdmx::Message, body: &[
                 b"universe_name",
                 x.universe_name,
                 body,
-            )
-        }
-        sdmx::Message::ChBk(x) => {
-            let at = put_kind(out, from, at, ChBk::CONTENT_TYPE);
-            put_chbk(out, from, at, x, body)
-        }
-        sdmx::Message::ChLs(x) => {
-            let at = put_kind(out, from, at, ChLs::CONTENT_TYPE);
-            put_chls(out, from, at, x.channel_levels, body)
-        }
-        sdmx::Message::Sxus(x) => {
-            let at = put_kind(out, from, at, SXUS_NAME);
-            put_universe(
+            ),
+            sdmx::Message::ChBk(x) => put_chbk(out, from, at, x, body),
+            sdmx::Message::ChLs(x) => put_list(
+                out,
+                from,
+                at,
+                b"channel_levels.count",
+                x.channel_levels,
+                body,
+                LevelLines,
+            ),
+            sdmx::Message::Sxus(x) => put_universe(
                 out,
                 from,
                 at,
@@ -228,35 +239,12 @@ pub fn put_sdmx(out: &mut [u8], from: u32, at: usize, m: sdmx::Message, body: &[
                 b"connection_string",
                 x.connection_string,
                 body,
-            )
+            ),
         }
     }
 }
 
 // ---- FPTC
-
-fn put_hinted_kind(
-    out: &mut [u8],
-    from: u32,
-    at: usize,
-    content_type: u32,
-    content_hint: u32,
-) -> usize
-    ensures { Prints from (line (chars "kind") (encode_number 4 content_type) ++ line (chars "content_hint") (decimal content_hint)) at out.old result out.new }
-{
-    let at = put_kind(out, from, at, content_type);
-    put_decimal_line(out, from, at, b"content_hint", content_hint as usize)
-}
-
-// The fields of a patch from `channel` on.
-fn put_patch_channels(out: &mut [u8], from: u32, at: usize, x: Ptch, body: &[u8]) -> usize
-    ensures { Lists from names.patch_channels body.now (fptc_says.ptch_view x).1.1.1 at out.old result out.new }
-{
-    let at = put_decimal_line(out, from, at, b"channel", x.channel as usize);
-    let at = put_decimal_line(out, from, at, b"channel_count", x.channel_count as usize);
-    let at = put_cstring(out, from, at, b"fixture_make", x.fixture_make, body);
-    put_cstring(out, from, at, b"fixture_name", x.fixture_name, body)
-}
 
 fn put_ptch(out: &mut [u8], from: u32, at: usize, x: Ptch, body: &[u8]) -> usize
     ensures { Lists from (names.listed kind.Ptch) body.now (fptc_says.ptch_view x) at out.old result out.new }
@@ -270,32 +258,42 @@ fn put_ptch(out: &mut [u8], from: u32, at: usize, x: Ptch, body: &[u8]) -> usize
     );
     let at = put_decimal_line(out, from, at, b"universe", x.universe as usize);
     let at = put_decimal_line(out, from, at, b"reserved", x.reserved as usize);
-    put_patch_channels(out, from, at, x, body)
+    let at = put_decimal_line(out, from, at, b"channel", x.channel as usize);
+    let at = put_decimal_line(out, from, at, b"channel_count", x.channel_count as usize);
+    let at = put_cstring(out, from, at, b"fixture_make", x.fixture_make, body);
+    put_cstring(out, from, at, b"fixture_name", x.fixture_name, body)
 }
 
-// A message of FPTC.
-pub fn put_fptc(
-    out: &mut [u8],
-    from: u32,
-    at: usize,
-    m: fptc::Message,
-    content_hint: u32,
-    body: &[u8],
-) -> usize
-    ensures { Prints from (message_lines (fptc_says.message_kind m) (some content_hint) body.now (fptc_says.message_view m)) at out.old result out.new }
-{
-    match m {
-        fptc::Message::Ptch(x) => {
-            let at = put_hinted_kind(out, from, at, Ptch::CONTENT_TYPE, content_hint);
-            put_ptch(out, from, at, x, body)
+impl MessageLines for fptc::Message {
+    ghost kind = { fptc_says.message_kind };
+
+    ghost view = { fptc_says.message_view };
+
+    fn name(self) -> &'static [u8] {
+        match self {
+            fptc::Message::Ptch(_) => b"Ptch",
+            fptc::Message::UPtc(_) => b"UPtc",
+            fptc::Message::SPtc(_) => b"SPtc",
         }
-        fptc::Message::UPtc(x) => {
-            let at = put_hinted_kind(out, from, at, UPtc::CONTENT_TYPE, content_hint);
-            put_fixture_identifiers(out, from, at, x.fixture_identifiers, body)
-        }
-        fptc::Message::SPtc(x) => {
-            let at = put_hinted_kind(out, from, at, SPtc::CONTENT_TYPE, content_hint);
-            put_fixture_identifiers(out, from, at, x.fixture_identifiers, body)
+    }
+
+    fn put_fields(self, out: &mut [u8], from: u32, at: usize, body: &[u8]) -> usize {
+        match self {
+            fptc::Message::Ptch(x) => put_ptch(out, from, at, x, body),
+            fptc::Message::UPtc(x) => put_fixture_identifiers(
+                out,
+                from,
+                at,
+                x.fixture_identifiers,
+                body,
+            ),
+            fptc::Message::SPtc(x) => put_fixture_identifiers(
+                out,
+                from,
+                at,
+                x.fixture_identifiers,
+                body,
+            ),
         }
     }
 }
@@ -310,18 +308,28 @@ fn put_sele(out: &mut [u8], from: u32, at: usize, x: Sele, body: &[u8]) -> usize
     put_fixture_identifiers(out, from, at, x.fixture_identifiers, body)
 }
 
-// A message of FSEL.
-pub fn put_fsel(out: &mut [u8], from: u32, at: usize, m: fsel::Message, body: &[u8]) -> usize
-    ensures { Prints from (message_lines (fsel_says.message_kind m) none body.now (fsel_says.message_view m)) at out.old result out.new }
-{
-    match m {
-        fsel::Message::Sele(x) => {
-            let at = put_kind(out, from, at, Sele::CONTENT_TYPE);
-            put_sele(out, from, at, x, body)
+impl MessageLines for fsel::Message {
+    ghost kind = { fsel_says.message_kind };
+
+    ghost view = { fsel_says.message_view };
+
+    fn name(self) -> &'static [u8] {
+        match self {
+            fsel::Message::Sele(_) => b"Sele",
+            fsel::Message::DeSe(_) => b"DeSe",
         }
-        fsel::Message::DeSe(x) => {
-            let at = put_kind(out, from, at, DeSe::CONTENT_TYPE);
-            put_fixture_identifiers(out, from, at, x.fixture_identifiers, body)
+    }
+
+    fn put_fields(self, out: &mut [u8], from: u32, at: usize, body: &[u8]) -> usize {
+        match self {
+            fsel::Message::Sele(x) => put_sele(out, from, at, x, body),
+            fsel::Message::DeSe(x) => put_fixture_identifiers(
+                out,
+                from,
+                at,
+                x.fixture_identifiers,
+                body,
+            ),
         }
     }
 }
@@ -355,18 +363,28 @@ fn put_fram(out: &mut [u8], from: u32, at: usize, x: Fram, body: &[u8]) -> usize
     put_cstring(out, from, at, b"frame_names", x.frame_names, body)
 }
 
-// A message of FINF.
-pub fn put_finf(out: &mut [u8], from: u32, at: usize, m: finf::Message, body: &[u8]) -> usize
-    ensures { Prints from (message_lines (finf_says.message_kind m) none body.now (finf_says.message_view m)) at out.old result out.new }
-{
-    match m {
-        finf::Message::SFra(x) => {
-            let at = put_kind(out, from, at, SFra::CONTENT_TYPE);
-            put_fixture_identifiers(out, from, at, x.fixture_identifiers, body)
+impl MessageLines for finf::Message {
+    ghost kind = { finf_says.message_kind };
+
+    ghost view = { finf_says.message_view };
+
+    fn name(self) -> &'static [u8] {
+        match self {
+            finf::Message::SFra(_) => b"SFra",
+            finf::Message::Fram(_) => b"Fram",
         }
-        finf::Message::Fram(x) => {
-            let at = put_kind(out, from, at, Fram::CONTENT_TYPE);
-            put_fram(out, from, at, x, body)
+    }
+
+    fn put_fields(self, out: &mut [u8], from: u32, at: usize, body: &[u8]) -> usize {
+        match self {
+            finf::Message::SFra(x) => put_fixture_identifiers(
+                out,
+                from,
+                at,
+                x.fixture_identifiers,
+                body,
+            ),
+            finf::Message::Fram(x) => put_fram(out, from, at, x, body),
         }
     }
 }

@@ -3,7 +3,7 @@ use Rattle.std.specs.Prelude.{ℕ, ◌++◌}
 use Prim.Native.String.{String}
 use Rattle.format.specs.Format.{Format, number, code, cstring, ucs2, list, ◌&◌}
 use Rattle.protocol.specs.Kind as kind
-use Rattle.protocol.specs.Kind.{Kind, name_limit, body_of}
+use Rattle.protocol.specs.Kind.{Kind, body_of}
 use Rattle.protocol.specs.Kind.{identifier_format, fixture_data_format, fixture_format, channel_level_format, feed_name_format, laser_point_format}
 use Rattle.text.specs.Text.{chars}
 use Rattle.lines.specs.Lines.{Listed, decimal, bits, type, bytes, units, each, block, digits, ◌and◌}
@@ -40,7 +40,7 @@ numbers_of name = uncounted name (number_of name)
 abbrev pub block_of : {w : ℕ} → String → Listed (list w (number 1))
 block_of name = block (chars name ++ chars ".count") (chars name)
 
--- ---- records; what stands behind some of a record's fields has a name where a function lists it
+-- ---- records
 
 abbrev pub identifier : Listed identifier_format
 identifier = type_of "identifier_type" and digits (chars "data_size") (chars "data")
@@ -48,24 +48,13 @@ identifier = type_of "identifier_type" and digits (chars "data_size") (chars "da
 abbrev pub floats : Listed (number 4 & number 4 & number 4 & number 4 & number 4 & number 4)
 floats = float_of "position" and float_of "position" and float_of "position" and float_of "angles" and float_of "angles" and float_of "angles"
 
-abbrev pub from_circuit : Listed (ucs2 name_limit & ucs2 name_limit & number 4 & number 4 & number 4 & number 4 & number 4 & number 4)
-from_circuit = ucs2_of "circuit" and ucs2_of "note" and floats
-
-abbrev pub from_unit :
-    Listed (ucs2 name_limit & number 2 & ucs2 name_limit & ucs2 name_limit & number 4 & number 4 & number 4 & number 4 & number 4 & number 4)
-from_unit = ucs2_of "unit" and number_of "channel" and from_circuit
-
 abbrev pub fixture_data : Listed fixture_data_format
-fixture_data = number_of "patched" and number_of "universe" and number_of "universe_channel" and from_unit
-
-abbrev pub from_identifiers : Listed (list 1 identifier_format & fixture_data_format)
-from_identifiers = list_of "identifier_count" identifier and fixture_data
-
-abbrev pub from_mode : Listed (ucs2 name_limit & number 2 & number 1 & list 1 identifier_format & fixture_data_format)
-from_mode = ucs2_of "mode_name" and number_of "channel_count" and number_of "is_dimmer" and from_identifiers
+fixture_data = number_of "patched" and number_of "universe" and number_of "universe_channel" and ucs2_of "unit" and number_of "channel"
+    and ucs2_of "circuit" and ucs2_of "note" and floats
 
 abbrev pub fixture : Listed fixture_format
-fixture = number_of "fixture_identifier" and ucs2_of "manufacturer_name" and ucs2_of "fixture_name" and from_mode
+fixture = number_of "fixture_identifier" and ucs2_of "manufacturer_name" and ucs2_of "fixture_name" and ucs2_of "mode_name"
+    and number_of "channel_count" and number_of "is_dimmer" and list_of "identifier_count" identifier and fixture_data
 
 abbrev pub channel_level : Listed channel_level_format
 channel_level = number_of "universe_index" and number_of "channel" and number_of "channel_level"
@@ -75,9 +64,6 @@ feed_name = ucs2_of "feed_names"
 
 abbrev pub laser_point : Listed laser_point_format
 laser_point = number_of "x_low_byte" and number_of "y_low_byte" and number_of "xy_high_nibbles" and number_of "color"
-
-abbrev pub patch_channels : Listed (number 2 & number 2 & cstring name_limit & cstring name_limit)
-patch_channels = number_of "channel" and number_of "channel_count" and cstring_of "fixture_make" and cstring_of "fixture_name"
 
 -- ---- kinds
 
@@ -99,7 +85,8 @@ rows kind.UNam = named "UNam" (number_of "universe_index" and cstring_of "univer
 rows kind.ChBk = named "ChBk" (number_of "blind" and number_of "universe_index" and number_of "first_channel" and block_of "channel_levels")
 rows kind.ChLs = named "ChLs" (uncounted "channel_levels" channel_level)
 rows kind.Sxus = named "Sxus" (number_of "universe_index" and cstring_of "connection_string")
-rows kind.Ptch = named "Ptch" (number_of "fixture_identifier" and number_of "universe" and number_of "reserved" and patch_channels)
+rows kind.Ptch = named "Ptch" (number_of "fixture_identifier" and number_of "universe" and number_of "reserved"
+    and number_of "channel" and number_of "channel_count" and cstring_of "fixture_make" and cstring_of "fixture_name")
 rows kind.UPtc = named "UPtc" (numbers_of "fixture_identifiers")
 rows kind.SPtc = named "SPtc" (numbers_of "fixture_identifiers")
 rows kind.Sele = named "Sele" (number_of "complete" and number_of "reserved" and numbers_of "fixture_identifiers")

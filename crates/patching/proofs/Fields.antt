@@ -1,12 +1,11 @@
 -- The fields of an entry's number. Assumes nothing.
 use Prim.Native.Nat.{ℕ, ◌+◌, ◌*◌, ◌<◌, ◌≤◌, min, max}
-use mathlib.Core.Path.{◌≡◌, refl, sym, ap, ap₂, ◌∙◌}
+use mathlib.Core.Path.{◌≡◌, refl, ap₂, ◌∙◌}
 use mathlib.Core.Bool.{Bool, true, false, ◌&&◌, ◌||◌}
 use native.Mathlib.Omega.{arith}
 use lib.Dec.{ltb, eqb}
 use borrow.Author.Tests.{lt-ltb, le-ltb, ltb-true, ltb-false, eqb-true, eqb-false}
 use Rattle.patching.specs.Entry.{Entry, universe, channel, channel_count, identifier, Fields, fields, entry_of, end, shares, before}
-use Rattle.patching.specs.Book.{misfits}
 use Rattle.patching.proofs.Cases.{same_test, eqb_comm}
 
 -- an entry's number is that of its fields
@@ -80,57 +79,9 @@ before_at e x = go (ltb (universe e) (universe x)) refl (eqb (universe e) (unive
         let k : at x ≤ at e = omega arith in
         le-ltb (at e) (at x) k
 
--- by the code's tests: one ends before the other starts, or has no channel, or else both are in one universe
-module _ (e x : Entry) where
-  by : (a b : Bool) → eqb (universe e) (universe x) ≡ a → ltb (max (channel e) (channel x)) (min (end e) (end x)) ≡ b → shares e x ≡ (a && b)
-  by a b p q = ap₂ (λ (s t : Bool). s && t) p q
-
-  apart : (universe e ≡ universe x → min (end e) (end x) ≤ max (channel e) (channel x)) → false ≡ shares e x
-  apart h = sym (go (eqb (universe e) (universe x)) refl)
-    where
-      go : (a : Bool) → eqb (universe e) (universe x) ≡ a → shares e x ≡ false
-      go false p = by false (ltb (max (channel e) (channel x)) (min (end e) (end x))) p refl
-      go true p = by true false p (le-ltb (max (channel e) (channel x)) (min (end e) (end x)) (h (eqb-true (universe e) (universe x) p)))
-
-  pub ends-ahead : at e + channel_count e ≤ at x → false ≡ shares e x
-  ends-ahead h = apart (λ u. omega arith)
-
-  pub ends-behind : at x + channel_count x ≤ at e → false ≡ shares e x
-  ends-behind h = apart (λ u. omega arith)
-
-  pub none-held : channel_count e < 1 → false ≡ shares e x
-  none-held h = apart (λ u. omega arith)
-
-  pub none-held-there : channel_count x < 1 → false ≡ shares e x
-  none-held-there h = apart (λ u. omega arith)
-
-  pub by-universe : at x < at e + channel_count e → at e < at x + channel_count x → 1 ≤ channel_count e → 1 ≤ channel_count x
-      → eqb (universe e) (universe x) ≡ shares e x
-  by-universe h k m n = go (eqb (universe e) (universe x)) refl
-    where
-      go : (a : Bool) → eqb (universe e) (universe x) ≡ a → a ≡ shares e x
-      go false p = sym (by false (ltb (max (channel e) (channel x)) (min (end e) (end x))) p refl)
-      go true p =
-          let u : universe e ≡ universe x = eqb-true (universe e) (universe x) p in
-          let l : max (channel e) (channel x) < min (end e) (end x) = omega arith in
-          sym (by true true p (lt-ltb (max (channel e) (channel x)) (min (end e) (end x)) l))
-
 -- it is the same which of two shares with the other
 pub shares-comm : (e x : Entry) → shares x e ≡ shares e x
 shares-comm e x =
     let a : max (channel x) (channel e) ≡ max (channel e) (channel x) = omega arith in
     let b : min (end x) (end e) ≡ min (end e) (end x) = omega arith in
     ap₂ (λ (s t : Bool). s && t) (eqb_comm (universe x) (universe e)) (ap₂ ltb a b)
-
--- ---- a misfit, by its two tests
-
-module _ (e : Entry) (n : ℕ) (q : n ≡ channel_count e) where
-  pub no-channel : n < 1 → ltb n 1 ≡ misfits e
-  no-channel h =
-      let k : channel_count e < 1 = omega arith in
-      lt-ltb n 1 h ∙ sym (ap (λ (b : Bool). b || ltb 512 (end e)) (lt-ltb (channel_count e) 1 k))
-
-  pub some-channel : (c : ℕ) → c ≡ channel e → 1 ≤ n → ltb 512 (c + n) ≡ misfits e
-  some-channel c r h =
-      let k : 1 ≤ channel_count e = omega arith in
-      ap₂ (λ (x y : ℕ). ltb 512 (x + y)) r q ∙ sym (ap (λ (b : Bool). b || ltb 512 (end e)) (le-ltb (channel_count e) 1 k))

@@ -1,6 +1,6 @@
 -- A loop over entries among lent words: what one turn does to those before it and to the rest. Assumes nothing.
 use Prim.Native.Nat.{ℕ, zero, suc, ◌+◌, ◌<◌, ◌≤◌}
-use mathlib.Core.Path.{◌≡◌, refl, sym, ap, ◌∙◌}
+use mathlib.Core.Path.{◌≡◌, sym, ap, ◌∙◌}
 use mathlib.Core.Bool.{Bool, true, false, ◌||◌, or-false, or_assoc}
 use mathlib.Core.List.{List, [], ◌∷◌, ◌++◌, append-nil}
 use native.Mathlib.Omega.{arith}
@@ -96,9 +96,6 @@ pub record Keeping (p : Entry → Bool) (n : ℕ) (xs ys : List Entry) (k i : �
   pub as_many : length ys ≡ length xs
   pub kept : take k ys ++ filter p (drop i (take n ys)) ≡ filter p (take n xs)
   pub behind : drop k ys ≡ drop k xs
-
-pub keep-start : (p : Entry → Bool) (n : ℕ) (xs : List Entry) → Keeping p n xs xs 0 0
-keep-start p n xs = record { below = omega arith; within = omega arith; as_many = refl; kept = refl; behind = refl }
 
 module _ {p : Entry → Bool} {n : ℕ} {xs ys : List Entry} {k i : ℕ} (long : n ≤ length xs) (s : Keeping p n xs ys k i) where
   many : n ≤ length ys

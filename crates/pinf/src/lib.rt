@@ -8,10 +8,13 @@ ghost use Rattle.format.specs.View.{view};
 ghost use Rattle.protocol.specs.Layer.{PINF};
 ghost use Rattle.protocol.specs.Step.{read_body};
 ghost use Rattle.put.specs.Put.{Writes, capped, put_at};
-ghost use Rattle.pinf.specs.Says.{pnam, ploc, pnam_says, ploc_says, message_says};
+ghost use Rattle.refusal.specs.Says.{answer_says};
+ghost use Rattle.pinf.specs.Says.{pnam, ploc, pnam_view, ploc_view, message_kind, message_view};
+ghost use Rattle.wire.specs.Says.{says, message_says};
 
-use put::{Put, cstring_size, either, holds_zero, more, over_limit, put_cstring, put_u16, weigh};
-use wire::{CString, CStringRead, Cursor, NAME_LIMIT, U16Read};
+use put::{Faults, cstring_size, put_cstring, put_u16};
+use refusal::Refusal;
+use wire::{CString, Cursor, NAME_LIMIT};
 
 // The old port originally used for broadcast.
 pub const OLD_BROADCAST_PORT: u16 = 4810;
@@ -41,44 +44,30 @@ pub struct PNam {
     pub name: CString,
 }
 
-#[derive(Clone, Copy)]
-pub enum PNamRead {
-    Read(PNam, Cursor),
-    Refused(u8),
-}
-
 impl PNam {
     pub const CONTENT_TYPE: u32 = 0x6D614E50;
 
-    pub fn read_from_bytes(body: &[u8]) -> PNamRead
-        ensures { pnam_says result ≡ view pnam body.now 0 }
+    pub fn read_from_bytes(body: &[u8]) -> Result<(PNam, Cursor), Refusal>
+        ensures { says pnam_view result ≡ view pnam body.now 0 }
     {
-        let c = Cursor { at: 0 };
-        let answer = c.cstring(body, NAME_LIMIT);
-        let CStringRead::Read(name, c) = answer else {
-            return PNamRead::Refused(answer.number());
-        };
-        PNamRead::Read(PNam { name }, c)
+        let (name, c) = Cursor::START.cstring(body, NAME_LIMIT)?;
+        Ok((PNam { name }, c))
     }
 
+    #[tactic(auto, unfolding(format::specs::Format::size))]
     pub fn size_bytes(name: &[u8]) -> usize
         ensures { result ≡ capped (size pnam name.now) }
     {
-        more(0, cstring_size(name))
+        cstring_size(name)
     }
 
-    pub fn write_to_bytes(out: &mut [u8], at: usize, name: &[u8]) -> Put
-        ensures { (result, out.new) ≡ put_at pnam name.now at out.old }
+    pub fn write_to_bytes(out: &mut [u8], at: usize, name: &[u8]) -> Result<usize, Refusal>
+        ensures { (answer_says result, out.new) ≡ put_at pnam name.now at out.old }
     {
-        let zeros = holds_zero(name);
-        let over = over_limit(name.len(), NAME_LIMIT);
-        let len = PNam::size_bytes(name);
-        let number = weigh(zeros, over, false, at, len, out.len());
-        if number != 0 {
-            return Put { number, at };
-        }
-        let at = put_cstring(out, at, name);
-        Put { number: 0, at }
+        Faults::NONE
+            .cstring(name, NAME_LIMIT)
+            .weigh(at, PNam::size_bytes(name), out.len())?;
+        Ok(put_cstring(out, at, name))
     }
 }
 
@@ -94,35 +83,17 @@ pub struct PLoc {
     pub state: CString,
 }
 
-#[derive(Clone, Copy)]
-pub enum PLocRead {
-    Read(PLoc, Cursor),
-    Refused(u8),
-}
-
 impl PLoc {
     pub const CONTENT_TYPE: u32 = 0x636F4C50;
 
-    pub fn read_from_bytes(body: &[u8]) -> PLocRead
-        ensures { ploc_says result ≡ view ploc body.now 0 }
+    pub fn read_from_bytes(body: &[u8]) -> Result<(PLoc, Cursor), Refusal>
+        ensures { says ploc_view result ≡ view ploc body.now 0 }
     {
-        let c = Cursor { at: 0 };
-        let U16Read::Read(listening_tcp_port, c) = c.u16(body) else {
-            return PLocRead::Refused(7);
-        };
-        let answer = c.cstring(body, NAME_LIMIT);
-        let CStringRead::Read(kind, c) = answer else {
-            return PLocRead::Refused(answer.number());
-        };
-        let answer = c.cstring(body, NAME_LIMIT);
-        let CStringRead::Read(name, c) = answer else {
-            return PLocRead::Refused(answer.number());
-        };
-        let answer = c.cstring(body, NAME_LIMIT);
-        let CStringRead::Read(state, c) = answer else {
-            return PLocRead::Refused(answer.number());
-        };
-        PLocRead::Read(
+        let (listening_tcp_port, c) = Cursor::START.u16(body)?;
+        let (kind, c) = c.cstring(body, NAME_LIMIT)?;
+        let (name, c) = c.cstring(body, NAME_LIMIT)?;
+        let (state, c) = c.cstring(body, NAME_LIMIT)?;
+        Ok((
             PLoc {
                 listening_tcp_port,
                 kind,
@@ -130,19 +101,17 @@ impl PLoc {
                 state,
             },
             c,
-        )
+        ))
     }
 
+    #[tactic(auto, unfolding(format::specs::Format::size))]
     pub fn size_bytes(kind: &[u8], name: &[u8], state: &[u8]) -> usize
         ensures { result ≡ capped (size ploc (0, (kind.now, (name.now, state.now)))) }
     {
-        more(
-            2,
-            more(
-                cstring_size(kind),
-                more(cstring_size(name), cstring_size(state)),
-            ),
-        )
+        cstring_size(kind)
+            .saturating_add(cstring_size(name))
+            .saturating_add(cstring_size(state))
+            .saturating_add(2)
     }
 
     fn put(
@@ -169,27 +138,15 @@ impl PLoc {
         kind: &[u8],
         name: &[u8],
         state: &[u8],
-    ) -> Put
-        ensures { (result, out.new) ≡ put_at ploc (listening_tcp_port, (kind.now, (name.now, state.now))) at out.old }
+    ) -> Result<usize, Refusal>
+        ensures { (answer_says result, out.new) ≡ put_at ploc (listening_tcp_port, (kind.now, (name.now, state.now))) at out.old }
     {
-        let zeros = either(
-            holds_zero(kind),
-            either(holds_zero(name), holds_zero(state)),
-        );
-        let over = either(
-            over_limit(kind.len(), NAME_LIMIT),
-            either(
-                over_limit(name.len(), NAME_LIMIT),
-                over_limit(state.len(), NAME_LIMIT),
-            ),
-        );
-        let len = PLoc::size_bytes(kind, name, state);
-        let number = weigh(zeros, over, false, at, len, out.len());
-        if number != 0 {
-            return Put { number, at };
-        }
-        let at = PLoc::put(out, at, listening_tcp_port, kind, name, state);
-        Put { number: 0, at }
+        Faults::NONE
+            .cstring(kind, NAME_LIMIT)
+            .cstring(name, NAME_LIMIT)
+            .cstring(state, NAME_LIMIT)
+            .weigh(at, PLoc::size_bytes(kind, name, state), out.len())?;
+        Ok(PLoc::put(out, at, listening_tcp_port, kind, name, state))
     }
 }
 
@@ -200,28 +157,24 @@ pub enum Message {
     PLoc(PLoc),
 }
 
-// A message with the cursor behind its body; a content type of no kind that is read; a body that cannot be read.
-#[derive(Clone, Copy)]
-pub enum MessageRead {
-    Read(Message, Cursor),
-    Unknown,
-    Refused(u8),
-}
-
 impl Message {
-    pub fn read_from_bytes(content_type: u32, body: &[u8]) -> MessageRead
-        ensures { message_says result ≡ read_body PINF content_type body.now }
+    // A message with the cursor behind its body; none where its content type is of no kind that is read.
+    pub fn read_from_bytes(
+        content_type: u32,
+        body: &[u8],
+    ) -> Result<Option<(Message, Cursor)>, Refusal>
+        ensures { message_says message_kind message_view result ≡ read_body PINF content_type body.now }
     {
         match content_type {
-            PNam::CONTENT_TYPE => match PNam::read_from_bytes(body) {
-                PNamRead::Read(m, c) => MessageRead::Read(Message::PNam(m), c),
-                PNamRead::Refused(n) => MessageRead::Refused(n),
-            },
-            PLoc::CONTENT_TYPE => match PLoc::read_from_bytes(body) {
-                PLocRead::Read(m, c) => MessageRead::Read(Message::PLoc(m), c),
-                PLocRead::Refused(n) => MessageRead::Refused(n),
-            },
-            _ => MessageRead::Unknown,
+            PNam::CONTENT_TYPE => {
+                let (m, c) = PNam::read_from_bytes(body)?;
+                Ok(Some((Message::PNam(m), c)))
+            }
+            PLoc::CONTENT_TYPE => {
+                let (m, c) = PLoc::read_from_bytes(body)?;
+                Ok(Some((Message::PLoc(m), c)))
+            }
+            _ => Ok(None),
         }
     }
 }

@@ -1,4 +1,3 @@
-pub mod Told
 pub mod Calls
 pub mod Fields
 pub mod Widths

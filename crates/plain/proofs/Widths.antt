@@ -10,10 +10,11 @@ use lib.Dec.{eqb}
 use Rattle.format.specs.Format.{pick}
 use Rattle.format.specs.Fault.{too_long}
 use Rattle.protocol.specs.Kind.{Kind}
-use Rattle.writing.specs.Call.{Call, opens, give, closes, Part, body, laser_feed_list, feed_name, laser_feed_frame, laser_point, fixture_list, fixture, identifier, fixture_data, layout_of, layout_long, too_long_in}
+use Rattle.writing.specs.Call.{Call, opens, give, closes, layout_of, layout_long, too_long_in}
+use Rattle.writing.specs.Call.{Part, body, laser_feed_list, feed_name, laser_feed_frame, laser_point, fixture_list, fixture, identifier, fixture_data}
 use Rattle.writing.specs.Writer.{Turn, idle, body_due, items_due, parts_due, left, identifiers_left, next_part, next_turn, Writer, Outcome, settled}
 use Rattle.writing.proofs.Taken.{Taken, call-cases}
-use Rattle.plain.specs.State.{kind_at, turn_of, turn_at, state_is, flat_turn, answer_of}
+use Rattle.plain.specs.State.{kind_at, turn_of, turn_at, state_is, flat_turn, settled_with}
 use Rattle.plain.specs.Claims.{Fits, Given, Stays, Exact, Follows}
 use Rattle.plain.specs.declared.state.WriterState.{WriterState}
 use Rattle.plain.proofs.Calls.{kind-found}
@@ -97,5 +98,5 @@ exact w fit =
 pub follows : Follows
 follows c w o h =
     let v = state_is w in
-    call-cases (λ (r : Outcome). state_is (answer_of w r.number r.writer).writer ≡ r.writer) c v o (λ n. refl)
+    call-cases (λ (r : Outcome). state_is (settled_with w r.number r.writer).writer ≡ r.writer) c v o (λ n. refl)
     (λ t. exact (settled 0 c v o).writer (taken-fits c v o (given w h) t))

@@ -1,4 +1,5 @@
 pub mod Numbers
 pub mod Report
 pub mod State
+pub mod Written
 pub mod Claims

@@ -1,22 +1,26 @@
 -- The packet writer's state as plain fields, and what its calls answer.
-use Rattle.std.specs.Prelude.{ℕ, zero, suc, ◌%◌, List, eqb}
+use Rattle.std.specs.Prelude.{ℕ, zero, suc, ◌%◌, List, eqb, Result, Ok, Err}
+use Rattle.std.specs.Prelude as std
 use Rattle.std.proofs.Math.Option.{Option, none, some}
 use Rattle.format.specs.Format.{pick}
 use Rattle.protocol.specs.Layer.{find}
 use Rattle.protocol.specs.Kind.{Kind, EnterShow, FixtureList, index, kinds}
 use Rattle.writing.specs.Call.{Call}
 use Rattle.writing.specs.Writer.{Turn, idle, body_due, items_due, parts_due, Writer, apply}
+use Rattle.refusal.specs.Number.{number}
+use Rattle.refusal.specs.declared.Refusal.{Refusal}
 use Rattle.turns.specs.Says.{kind_is}
-use Rattle.plain.specs.declared.state.KindFound.{KindFound}
-use Rattle.plain.specs.declared.state.KindFound.TheVariants as kind-found
+use Rattle.turns.specs.declared.Kind.{Kind as Declared}
+use Rattle.writer.specs.Says.{state_of}
+use Rattle.writer.specs.declared.Writer as writer
 use Rattle.plain.specs.declared.state.WriterState.{WriterState}
 use Rattle.plain.specs.declared.state.WriterAnswer.{WriterAnswer}
 
 -- ---- kinds by their codes
 
-abbrev pub kind_says : KindFound → Option Kind
-kind_says (kind-found.Known k) = some (kind_is k)
-kind_says kind-found.Unknown = none
+abbrev pub kind_says : std.Option Declared → Option Kind
+kind_says (std.Some k) = some (kind_is k)
+kind_says std.None = none
 
 -- the kind whose index is the code
 unfoldable pub kind_at : ℕ → Option Kind
@@ -61,12 +65,17 @@ flat_state w = flat_turn w.turn (w.at % 4294967296)
 abbrev pub refused_with : WriterState → (number : ℕ) → WriterAnswer
 refused_with w n = record { number = n; writer = w }
 
-abbrev pub answer_of : WriterState → (number : ℕ) → Writer → WriterAnswer
-answer_of w zero next = record { number = 0; writer = flat_state next }
-answer_of w (suc n) next = refused_with w (suc n)
+abbrev pub answer_of : WriterState → Result writer.Writer Refusal → WriterAnswer
+answer_of w (Ok next) = record { number = 0; writer = flat_state (state_of next) }
+answer_of w (Err r) = refused_with w (number r)
+
+-- by its number
+abbrev pub settled_with : WriterState → (number : ℕ) → Writer → WriterAnswer
+settled_with w zero next = record { number = 0; writer = flat_state next }
+settled_with w (suc n) next = refused_with w (suc n)
 
 -- with the output after it
 abbrev pub called : Call → WriterState → List ℕ → WriterAnswer × List ℕ
 called c w o =
     let r = apply c (state_is w) o in
-    (answer_of w r.number r.writer, r.output)
+    (settled_with w r.number r.writer, r.output)

@@ -8,7 +8,7 @@ use floats::pattern_of;
 
 // Floats by their bits.
 #[repr(C)]
-#[derive(Clone, Copy)]
+#[derive(Clone, Copy, Default)]
 pub struct FixtureNumbers {
     pub patched: u8,
     pub universe: u8,
@@ -36,23 +36,6 @@ pub fn numbers(x: FixtureData) -> FixtureNumbers
         angle_x: pattern_of(x.angle_x, x.bits.angle_x),
         angle_y: pattern_of(x.angle_y, x.bits.angle_y),
         angle_z: pattern_of(x.angle_z, x.bits.angle_z),
-    }
-}
-
-pub fn no_numbers() -> FixtureNumbers
-    ensures { result ≡ flat_numbers (0, 0, 0, 0, (0, (0, (0, (0, (0, 0)))))) }
-{
-    FixtureNumbers {
-        patched: 0,
-        universe: 0,
-        universe_channel: 0,
-        channel: 0,
-        position_x: 0,
-        position_y: 0,
-        position_z: 0,
-        angle_x: 0,
-        angle_y: 0,
-        angle_z: 0,
     }
 }
 

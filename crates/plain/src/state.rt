@@ -1,11 +1,13 @@
 // The packet writer's state as plain fields, as narrow as what is counted: any values are a state.
 ghost use Rattle.std.specs.Prelude.{◌≡◌};
+ghost use Rattle.refusal.specs.Number.{number as refusal_number};
 ghost use Rattle.turns.specs.Says.{turn_is};
 ghost use Rattle.writer.specs.Says.{state_of};
 ghost use Rattle.plain.specs.State.{kind_at, kind_says, turn_at, state_is, flat_state, answer_of, refused_with};
 
+use refusal::Refusal;
 use turns::{Kind, Turn};
-use writer::{Writer, Written};
+use writer::Writer;
 
 #[repr(C)]
 #[derive(Clone, Copy)]
@@ -27,61 +29,48 @@ pub struct WriterAnswer {
     pub number: u8,
 }
 
-#[derive(Clone, Copy)]
-pub enum KindFound {
-    Known(Kind),
-    Unknown,
-}
-
-pub fn kind_of(code: u8) -> KindFound
+#[tactic(auto, unfolding(crate::specs::State::kind_at, protocol::specs::Layer::find))]
+pub fn kind_of(code: u8) -> Option<Kind>
     ensures { kind_says result ≡ kind_at code }
 {
     match code {
-        0 => KindFound::Known(Kind::EnterShow),
-        1 => KindFound::Known(Kind::FixtureList),
-        2 => KindFound::Known(Kind::FixtureRemove),
-        3 => KindFound::Known(Kind::LaserFeedControl),
-        4 => KindFound::Known(Kind::Capa),
-        5 => KindFound::Known(Kind::UNam),
-        6 => KindFound::Known(Kind::ChBk),
-        7 => KindFound::Known(Kind::ChLs),
-        8 => KindFound::Known(Kind::Sxus),
-        9 => KindFound::Known(Kind::Ptch),
-        10 => KindFound::Known(Kind::UPtc),
-        11 => KindFound::Known(Kind::SPtc),
-        12 => KindFound::Known(Kind::Sele),
-        13 => KindFound::Known(Kind::DeSe),
-        14 => KindFound::Known(Kind::SFra),
-        15 => KindFound::Known(Kind::Fram),
-        16 => KindFound::Known(Kind::PNam),
-        17 => KindFound::Known(Kind::PLoc),
-        18 => KindFound::Known(Kind::LaserFeedList),
-        19 => KindFound::Known(Kind::LaserFeedFrame),
-        _ => KindFound::Unknown,
+        0 => Some(Kind::EnterShow),
+        1 => Some(Kind::FixtureList),
+        2 => Some(Kind::FixtureRemove),
+        3 => Some(Kind::LaserFeedControl),
+        4 => Some(Kind::Capa),
+        5 => Some(Kind::UNam),
+        6 => Some(Kind::ChBk),
+        7 => Some(Kind::ChLs),
+        8 => Some(Kind::Sxus),
+        9 => Some(Kind::Ptch),
+        10 => Some(Kind::UPtc),
+        11 => Some(Kind::SPtc),
+        12 => Some(Kind::Sele),
+        13 => Some(Kind::DeSe),
+        14 => Some(Kind::SFra),
+        15 => Some(Kind::Fram),
+        16 => Some(Kind::PNam),
+        17 => Some(Kind::PLoc),
+        18 => Some(Kind::LaserFeedList),
+        19 => Some(Kind::LaserFeedFrame),
+        _ => None,
     }
 }
 
 impl WriterState {
     // Where no turn is meant, items are due of a kind that has none: every call is refused with 14.
+    #[tactic(auto, unfolding(crate::specs::State::turn_at))]
     fn turn_of(self) -> Turn
         ensures { turn_is result ≡ turn_at self }
     {
-        if self.turn == 0 {
-            return Turn::Idle;
+        match (self.turn, kind_of(self.kind)) {
+            (0, _) => Turn::Idle,
+            (1, Some(kind)) => Turn::Body(kind),
+            (2, Some(kind)) => Turn::Items(kind, self.items as usize),
+            (3, _) => Turn::Parts(self.items as usize, self.identifiers as usize),
+            _ => Turn::Items(Kind::EnterShow, 1),
         }
-        if self.turn == 3 {
-            return Turn::Parts(self.items as usize, self.identifiers as usize);
-        }
-        let KindFound::Known(kind) = kind_of(self.kind) else {
-            return Turn::Items(Kind::EnterShow, 1);
-        };
-        if self.turn == 1 {
-            return Turn::Body(kind);
-        }
-        if self.turn == 2 {
-            return Turn::Items(kind, self.items as usize);
-        }
-        Turn::Items(Kind::EnterShow, 1)
     }
 
     pub fn state(self) -> Writer
@@ -96,62 +85,40 @@ impl WriterState {
     fn of(w: Writer) -> WriterState
         ensures { result ≡ flat_state (state_of w) }
     {
-        let turn = w.turn;
-        let at = (w.at % 4294967296) as u32;
-        match turn {
-            Turn::Idle => WriterState {
-                turn: 0,
-                kind: 0,
-                items: 0,
-                identifiers: 0,
-                at,
-            },
-            Turn::Body(kind) => WriterState {
-                turn: 1,
-                kind: kind.figures().index,
-                items: 0,
-                identifiers: 0,
-                at,
-            },
-            Turn::Items(kind, items) => WriterState {
-                turn: 2,
-                kind: kind.figures().index,
-                items: (items % 65536) as u16,
-                identifiers: 0,
-                at,
-            },
-            Turn::Parts(items, identifiers) => WriterState {
-                turn: 3,
-                kind: 1,
-                items: (items % 65536) as u16,
-                identifiers: (identifiers % 256) as u8,
-                at,
-            },
+        let (turn, kind, items, identifiers) = match w.turn {
+            Turn::Idle => (0, 0, 0, 0),
+            Turn::Body(kind) => (1, kind.index(), 0, 0),
+            Turn::Items(kind, items) => (2, kind.index(), items, 0),
+            Turn::Parts(items, identifiers) => (3, Kind::FixtureList.index(), items, identifiers),
+        };
+        WriterState {
+            turn,
+            kind,
+            items: (items % 65536) as u16,
+            identifiers: (identifiers % 256) as u8,
+            at: (w.at % 4294967296) as u32,
         }
     }
 
     // A refused call answers the state that it was given.
-    pub fn answer(self, r: Written) -> WriterAnswer
-        ensures { result ≡ answer_of self r.number (state_of r.writer) }
+    pub fn answer(self, r: Result<Writer, Refusal>) -> WriterAnswer
+        ensures { result ≡ answer_of self r }
     {
-        if r.number != 0 {
-            return WriterAnswer {
-                number: r.number,
-                writer: self,
-            };
-        }
-        WriterAnswer {
-            number: 0,
-            writer: WriterState::of(r.writer),
+        match r {
+            Ok(next) => WriterAnswer {
+                writer: WriterState::of(next),
+                number: 0,
+            },
+            Err(refusal) => self.refused(refusal),
         }
     }
 
-    pub fn refused(self, number: u8) -> WriterAnswer
-        ensures { result ≡ refused_with self number }
+    pub fn refused(self, refusal: Refusal) -> WriterAnswer
+        ensures { result ≡ refused_with self (refusal_number refusal) }
     {
         WriterAnswer {
-            number,
             writer: self,
+            number: refusal.number(),
         }
     }
 }

@@ -17,7 +17,7 @@ SameLayers xs ys = (l : Layer) → (In l xs → In l ys) × (In l ys → In l xs
 abbrev pub ByCookie : (ℕ → Option Layer) → Type 0
 ByCookie lookup = ((l : Layer) → lookup (cookie l) ≡ some l) × ((c : ℕ) → NoLayer c → lookup c ≡ none)
 
--- any-order: so does a lookup over any order of the six
+-- any_order: so does a lookup over any order of the six
 abbrev pub AnyOrder : Type 0
 AnyOrder = (order : List Layer) → EveryLayer order → ByCookie (layer_in order)
 

@@ -4,5 +4,4 @@ pub mod Sizes
 pub mod Judging
 pub mod Weighing
 pub mod Bodies
-pub mod Loops
 pub mod Heads

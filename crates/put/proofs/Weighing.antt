@@ -1,14 +1,14 @@
 -- Laws of the number of a write: a capped size weighs as the size itself, and what the number 0 tells.
 use Prim.Native.Nat.{ℕ, suc, ◌+◌, ◌≤◌, ◌<◌}
-use mathlib.Core.Path.{◌≡◌, refl, ◌∙◌}
+use mathlib.Core.Path.{◌≡◌, refl}
 use mathlib.Core.Bool.{Bool, true, false}
-use native.Mathlib.Nat.{suc-ne-zero, min-eq_left, zero-add}
+use native.Mathlib.Nat.{suc-ne-zero, min-eq_left}
 use native.Mathlib.Omega.{arith}
 use borrow.Author.Tests.{lt-ltb, ltb-false}
 use lib.Dec.{ltb}
 use Rattle.format.specs.Format.{pick}
 use Rattle.format.specs.Fault.{weighed, limit}
-use Rattle.put.specs.Put.{usize_max, capped, Weighs}
+use Rattle.put.specs.Put.{usize_max, capped}
 use Rattle.put.proofs.Writing.{split}
 
 weighed-past : (zeros over long : Bool) (x y room : ℕ) → limit < x → limit < y → weighed zeros over long x room ≡ weighed zeros over long y room
@@ -18,10 +18,6 @@ pub weighed-capped : (zeros over long : Bool) (at x room : ℕ) → weighed zero
 weighed-capped zeros over long at x room = split x usize_max
     (λ h. rw (min-eq_left h) refl)
     (λ h. weighed-past zeros over long (at + capped x) (at + x) room (omega arith) (omega arith))
-
-pub weigh-capped : {n end : ℕ} (zeros over long : Bool) (at len room : ℕ)
-    → n ≡ weighed zeros over long end room → end ≡ capped (at + len) → Weighs n zeros over long at len room
-weigh-capped zeros over long at len room e m = record { weighs = rw m at e ∙ simp zero-add at (weighed-capped zeros over long 0 (at + len) room) }
 
 -- a write that is taken
 pub record Passed (zeros over long : Bool) (end room : ℕ) : Type 0 where

@@ -1,30 +1,22 @@
 // Writes values at a place of lent output, sizes them, and weighs whether a write is taken.
 #![tactic(auto)]
 
-ghost use Rattle.std.specs.Prelude.{◌+◌, ◌-◌, ◌*◌, ◌≤◌, ◌≡◌, ◌||◌, [], ◌∷◌, length, ltb};
-ghost use Rattle.format.specs.Format.{number, cstring, ucs2, list, encode_number, concat_map, size};
-ghost use Rattle.format.specs.Fault.{has_zero, too_long};
+ghost use Rattle.std.specs.Prelude.{ℕ, ◌+◌, ◌*◌, ◌≡◌, [], ◌∷◌, map, length, leb};
+ghost use Rattle.std.proofs.Common.{refl};
+ghost use Rattle.format.specs.Format.{Format, Value, number, cstring, ucs2, list, encode, concat_map, size};
+ghost use Rattle.format.specs.Fault.{has_zero};
+ghost use Rattle.put.specs.Faults.{and_of, and_long};
+ghost use Rattle.format.proofs.Passing.{Plain};
+ghost use Rattle.format.proofs.Width.{width};
+ghost use Rattle.refusal.specs.Says.{number_says};
 ghost use Rattle.put.specs.Put.{Puts, Writes, capped, Weighs};
+
+use refusal::Refusal;
 
 // The bytes of the largest packet.
 pub const LIMIT: usize = 16_777_216;
 
-// What a body's writer answers: 0 or the number of the refusal, and the place behind what was written.
-#[repr(C)]
-#[derive(Clone, Copy)]
-pub struct Put {
-    pub number: u8,
-    pub at: usize,
-}
-
 // ---- numbers
-
-// How much is left behind a place.
-fn left(at: usize, len: usize) -> usize
-    ensures { result ≡ len - at }
-{
-    if at < len { len - at } else { 0 }
-}
 
 fn put_byte(out: &mut [u8], at: usize, n: u8) -> usize
     ensures { Puts (n ∷ []) at out.old result out.new }
@@ -36,111 +28,158 @@ fn put_byte(out: &mut [u8], at: usize, n: u8) -> usize
     at
 }
 
-// A number where there is room for it: behind one test of the room the compiler stores its bytes at once.
-fn store_2(out: &mut [u8], at: usize, n: usize) -> usize
-    requires { at + 2 ≤ length out.old }
-    ensures { Writes (number 2) n at out.old result out.new }
+// Bytes one behind the other, as far as the output reaches.
+fn put_bytes(out: &mut [u8], at: usize, bytes: &[u8]) -> usize
+    ensures { Puts bytes.now at out.old result out.new }
 {
-    out[at] = (n % 256) as u8;
-    out[at + 1] = (n / 256 % 256) as u8;
-    at + 2
-}
-
-fn store_4(out: &mut [u8], at: usize, n: usize) -> usize
-    requires { at + 4 ≤ length out.old }
-    ensures { Writes (number 4) n at out.old result out.new }
-{
-    out[at] = (n % 256) as u8;
-    out[at + 1] = (n / 256 % 256) as u8;
-    out[at + 2] = (n / 256 / 256 % 256) as u8;
-    out[at + 3] = (n / 256 / 256 / 256 % 256) as u8;
-    at + 4
-}
-
-// The lowest byte of n; then two, then four, the lowest first.
-pub fn put_number_1(out: &mut [u8], at: usize, n: usize) -> usize
-    ensures { Writes (number 1) n at out.old result out.new }
-{
-    put_byte(out, at, (n % 256) as u8)
-}
-
-pub fn put_number_2(out: &mut [u8], at: usize, n: usize) -> usize
-    ensures { Writes (number 2) n at out.old result out.new }
-{
-    if 2 <= left(at, out.len()) {
-        return store_2(out, at, n);
+    let mut next = at;
+    for b in bytes {
+        next = put_byte(out, next, *b);
     }
-    let at = put_byte(out, at, (n % 256) as u8);
-    put_byte(out, at, (n / 256 % 256) as u8)
+    next
 }
 
-pub fn put_number_4(out: &mut [u8], at: usize, n: usize) -> usize
-    ensures { Writes (number 4) n at out.old result out.new }
+// Behind one test of the room the compiler stores the bytes at once.
+fn put_array<const W: usize>(out: &mut [u8], at: usize, bytes: [u8; W]) -> usize
+    ensures { Puts bytes.entry at out.old result out.new }
 {
-    if 4 <= left(at, out.len()) {
-        return store_4(out, at, n);
+    if W <= out.len().saturating_sub(at) {
+        for i in 0..W {
+            out[at + i] = bytes[i];
+        }
+        return at + W;
     }
-    let at = put_byte(out, at, (n % 256) as u8);
-    let at = put_byte(out, at, (n / 256 % 256) as u8);
-    let at = put_byte(out, at, (n / 256 / 256 % 256) as u8);
-    put_byte(out, at, (n / 256 / 256 / 256 % 256) as u8)
+    put_bytes(out, at, &bytes)
 }
 
 pub fn put_u8(out: &mut [u8], at: usize, n: u8) -> usize
     ensures { Writes (number 1) n at out.old result out.new }
 {
-    put_number_1(out, at, n as usize)
+    put_array(out, at, [n])
 }
 
 pub fn put_u16(out: &mut [u8], at: usize, n: u16) -> usize
     ensures { Writes (number 2) n at out.old result out.new }
 {
-    put_number_2(out, at, n as usize)
+    put_array(out, at, n.to_le_bytes())
 }
 
 pub fn put_u32(out: &mut [u8], at: usize, n: u32) -> usize
     ensures { Writes (number 4) n at out.old result out.new }
 {
-    put_number_4(out, at, n as usize)
+    put_array(out, at, n.to_le_bytes())
 }
 
-// ---- strings and lists
+// The lowest byte of n; then two, then four.
+pub fn put_number_1(out: &mut [u8], at: usize, n: usize) -> usize
+    ensures { Writes (number 1) n at out.old result out.new }
+{
+    put_u8(out, at, (n % 256) as u8)
+}
 
-// Elements one behind the other, with neither count nor zero.
-fn put_bytes(out: &mut [u8], at: usize, bytes: &[u8]) -> usize
-    ensures { Puts (concat_map (encode_number 1) bytes.now) at out.old result out.new }
+pub fn put_number_2(out: &mut [u8], at: usize, n: usize) -> usize
+    ensures { Writes (number 2) n at out.old result out.new }
+{
+    put_u16(out, at, (n % 65536) as u16)
+}
+
+pub fn put_number_4(out: &mut [u8], at: usize, n: usize) -> usize
+    ensures { Writes (number 4) n at out.old result out.new }
+{
+    put_u32(out, at, (n % 4294967296) as u32)
+}
+
+// ---- lists and strings
+
+// What a list holds: numbers only, as many bytes each.
+pub trait ToBytes: Copy {
+    ghost format: { Format };
+
+    ghost value: { Self → Value format };
+
+    ghost WIDTH: { ℕ };
+
+    const WIDTH: usize;
+
+    fn put(self, out: &mut [u8], at: usize) -> usize
+        ensures { Writes format (value self) at out.old result out.new };
+
+    ghost plain: { Plain format };
+
+    ghost wide: { width format ≡ WIDTH };
+}
+
+impl ToBytes for u8 {
+    ghost format = { number 1 };
+
+    ghost value = { λ n. n };
+
+    ghost WIDTH = { 1 };
+
+    const WIDTH: usize = 1;
+
+    fn put(self, out: &mut [u8], at: usize) -> usize {
+        put_u8(out, at, self)
+    }
+
+    ghost plain = { tt };
+
+    ghost wide = { refl };
+}
+
+impl ToBytes for u16 {
+    ghost format = { number 2 };
+
+    ghost value = { λ n. n };
+
+    ghost WIDTH = { 2 };
+
+    const WIDTH: usize = 2;
+
+    fn put(self, out: &mut [u8], at: usize) -> usize {
+        put_u16(out, at, self)
+    }
+
+    ghost plain = { tt };
+
+    ghost wide = { refl };
+}
+
+impl ToBytes for u32 {
+    ghost format = { number 4 };
+
+    ghost value = { λ n. n };
+
+    ghost WIDTH = { 4 };
+
+    const WIDTH: usize = 4;
+
+    fn put(self, out: &mut [u8], at: usize) -> usize {
+        put_u32(out, at, self)
+    }
+
+    ghost plain = { tt };
+
+    ghost wide = { refl };
+}
+
+// Values one behind the other, with neither count nor zero.
+fn put_values<T: ToBytes>(out: &mut [u8], at: usize, values: &[T]) -> usize
+    ensures { Puts (concat_map (λ x. encode T.format (T.value x)) values.now) at out.old result out.new }
 {
     let mut next = at;
-    let mut i = 0;
-    while i < bytes.len() {
-        next = put_u8(out, next, bytes[i]);
-        i += 1;
+    for x in values {
+        next = x.put(out, next);
     }
     next
 }
 
-fn put_u16s(out: &mut [u8], at: usize, numbers: &[u16]) -> usize
-    ensures { Puts (concat_map (encode_number 2) numbers.now) at out.old result out.new }
+// A list with its count of two bytes.
+pub fn put_list<T: ToBytes>(out: &mut [u8], at: usize, values: &[T]) -> usize
+    ensures { Writes (list 2 T.format) (map T.value values.now) at out.old result out.new }
 {
-    let mut next = at;
-    let mut i = 0;
-    while i < numbers.len() {
-        next = put_u16(out, next, numbers[i]);
-        i += 1;
-    }
-    next
-}
-
-fn put_u32s(out: &mut [u8], at: usize, numbers: &[u32]) -> usize
-    ensures { Puts (concat_map (encode_number 4) numbers.now) at out.old result out.new }
-{
-    let mut next = at;
-    let mut i = 0;
-    while i < numbers.len() {
-        next = put_u32(out, next, numbers[i]);
-        i += 1;
-    }
-    next
+    let first = put_number_2(out, at, values.len());
+    put_values(out, first, values)
 }
 
 // A string with its zero, of bytes and of units; here its limit is its own length.
@@ -148,95 +187,109 @@ pub fn put_cstring(out: &mut [u8], at: usize, bytes: &[u8]) -> usize
     ensures { Writes (cstring (length bytes.now)) bytes.now at out.old result out.new }
 {
     let end = put_bytes(out, at, bytes);
-    put_byte(out, end, 0)
+    put_u8(out, end, 0)
 }
 
 pub fn put_ucs2(out: &mut [u8], at: usize, units: &[u16]) -> usize
     ensures { Writes (ucs2 (length units.now)) units.now at out.old result out.new }
 {
-    let end = put_u16s(out, at, units);
-    put_number_2(out, end, 0)
+    let end = put_values(out, at, units);
+    put_u16(out, end, 0)
 }
 
-// A list with its count of two bytes: of bytes, of 16-bit and of 32-bit numbers.
-pub fn put_block(out: &mut [u8], at: usize, block: &[u8]) -> usize
-    ensures { Writes (list 2 (number 1)) block.now at out.old result out.new }
-{
-    let first = put_number_2(out, at, block.len());
-    put_bytes(out, first, block)
-}
+// ---- what a value is refused for
 
-pub fn put_u16_list(out: &mut [u8], at: usize, numbers: &[u16]) -> usize
-    ensures { Writes (list 2 (number 2)) numbers.now at out.old result out.new }
-{
-    let first = put_number_2(out, at, numbers.len());
-    put_u16s(out, first, numbers)
-}
-
-pub fn put_u32_list(out: &mut [u8], at: usize, numbers: &[u32]) -> usize
-    ensures { Writes (list 2 (number 4)) numbers.now at out.old result out.new }
-{
-    let first = put_number_2(out, at, numbers.len());
-    put_u32s(out, first, numbers)
-}
-
-// ---- what a string or a list is refused for
-
-pub fn holds_zero(bytes: &[u8]) -> bool
+fn holds_zero(bytes: &[u8]) -> bool
     ensures { result ≡ has_zero bytes.now }
 {
-    let mut i = 0;
-    while i < bytes.len() {
-        if bytes[i] == 0 {
-            return true;
-        }
-        i += 1;
-    }
-    false
+    bytes.contains(&0)
 }
 
-pub fn holds_zero_unit(units: &[u16]) -> bool
+fn holds_zero_unit(units: &[u16]) -> bool
     ensures { result ≡ has_zero units.now }
 {
-    let mut i = 0;
-    while i < units.len() {
-        if units[i] == 0 {
-            return true;
+    units.contains(&0)
+}
+
+// What was found in the strings and lists of a value.
+#[derive(Clone, Copy)]
+pub struct Faults {
+    // a string holds a zero
+    pub zeros: bool,
+    // a string is longer than its limit
+    pub over: bool,
+    // a list is too long for its count
+    pub long: bool,
+}
+
+impl Faults {
+    pub const NONE: Faults = Faults {
+        zeros: false,
+        over: false,
+        long: false,
+    };
+
+    // And those of a string of bytes.
+    pub fn cstring(self, bytes: &[u8], limit: usize) -> Faults
+        ensures { result ≡ and_of self (cstring limit) bytes.now }
+    {
+        Faults {
+            zeros: self.zeros | holds_zero(bytes),
+            over: self.over | (limit < bytes.len()),
+            ..self
         }
-        i += 1;
     }
-    false
-}
 
-// Whether a string of so many bytes or units is longer than its limit.
-pub fn over_limit(len: usize, limit: usize) -> bool
-    ensures { result ≡ ltb limit len }
-{
-    limit < len
-}
+    // And those of a string of units.
+    pub fn ucs2(self, units: &[u16], limit: usize) -> Faults
+        ensures { result ≡ and_of self (ucs2 limit) units.now }
+    {
+        Faults {
+            zeros: self.zeros | holds_zero_unit(units),
+            over: self.over | (limit < units.len()),
+            ..self
+        }
+    }
 
-pub fn block_too_long(block: &[u8]) -> bool
-    ensures { result ≡ too_long (list 2 (number 1)) block.now }
-{
-    65536 <= block.len()
-}
+    // And those of a list with a count of two bytes.
+    pub fn list<T: ToBytes>(self, values: &[T]) -> Faults
+        ensures { result ≡ and_of self (list 2 T.format) (map T.value values.now) }
+    {
+        self.count(values.len(), 65536)
+    }
 
-pub fn u16_list_too_long(numbers: &[u16]) -> bool
-    ensures { result ≡ too_long (list 2 (number 2)) numbers.now }
-{
-    65536 <= numbers.len()
-}
+    // And of a list of so many items whose count is below a bound.
+    pub fn count(self, count: usize, bound: usize) -> Faults
+        ensures { result ≡ and_long self (leb bound count) }
+    {
+        Faults {
+            long: self.long | (bound <= count),
+            ..self
+        }
+    }
 
-pub fn u32_list_too_long(numbers: &[u32]) -> bool
-    ensures { result ≡ too_long (list 2 (number 4)) numbers.now }
-{
-    65536 <= numbers.len()
-}
-
-pub fn either(a: bool, b: bool) -> bool
-    ensures { result ≡ (a || b) }
-{
-    if a { true } else { b }
+    // Whether a write of len bytes at a place of an output of room bytes is taken.
+    pub fn weigh(self, at: usize, len: usize, room: usize) -> Result<(), Refusal>
+        ensures { Weighs (number_says result) self.zeros self.over self.long at len room }
+    {
+        if self.zeros {
+            return Err(Refusal::HoldsZero);
+        }
+        if self.over {
+            return Err(Refusal::OverLimit);
+        }
+        if self.long {
+            return Err(Refusal::TooLong);
+        }
+        let end = at.saturating_add(len);
+        if LIMIT < end {
+            return Err(Refusal::PacketSize);
+        }
+        if room < end {
+            return Err(Refusal::ShortOutput);
+        }
+        Ok(())
+    }
 }
 
 // ---- sizes
@@ -253,53 +306,9 @@ pub fn ucs2_size(units: &[u16]) -> usize
     units.len() * 2 + 2
 }
 
-pub fn block_size(block: &[u8]) -> usize
-    ensures { result ≡ size (list 2 (number 1)) block.now }
+// At most usize::MAX.
+pub fn list_size<T: ToBytes>(values: &[T]) -> usize
+    ensures { result ≡ capped (size (list 2 T.format) (map T.value values.now)) }
 {
-    2 + block.len()
-}
-
-pub fn u16_list_size(numbers: &[u16]) -> usize
-    ensures { result ≡ size (list 2 (number 2)) numbers.now }
-{
-    2 + numbers.len() * 2
-}
-
-pub fn u32_list_size(numbers: &[u32]) -> usize
-    ensures { result ≡ size (list 2 (number 4)) numbers.now }
-{
-    2 + numbers.len() * 4
-}
-
-// The sum, at most usize::MAX.
-pub fn more(a: usize, b: usize) -> usize
-    ensures { result ≡ capped (a + b) }
-{
-    if usize::MAX - a < b {
-        return usize::MAX;
-    }
-    a + b
-}
-
-// The number of a write of len bytes at a place of an output of room bytes: 0 if it is taken.
-pub fn weigh(zeros: bool, over: bool, long: bool, at: usize, len: usize, room: usize) -> u8
-    ensures { Weighs result zeros over long at len room }
-{
-    if zeros {
-        return 11;
-    }
-    if over {
-        return 19;
-    }
-    if long {
-        return 12;
-    }
-    let end = more(at, len);
-    if LIMIT < end {
-        return 15;
-    }
-    if room < end {
-        return 13;
-    }
-    0
+    values.len().saturating_mul(T::WIDTH).saturating_add(2)
 }

@@ -1,11 +1,13 @@
 // What was read, compared with the canonical bytes that are due (differential/src/canon.rs).
-use caex::{FeedNames, FeedNamesNext, LaserPoint, LaserPoints, LaserPointsNext};
-use fixture::{
-    Fixture, FixtureData, FixtureDataStrings, Fixtures, FixturesNext, FloatBits, Identifier,
-    Identifiers, IdentifiersNext,
-};
-use sdmx::{ChannelLevel, ChannelLevels, ChannelLevelsNext};
-use wire::{Block, CString, Cursor, U16List, U16Next, U16Read, U32List, U32Next, Ucs2};
+use caex::LaserPoint;
+use fixture::{Fixture, FixtureData, FixtureDataStrings, FloatBits, Identifier};
+use sdmx::ChannelLevel;
+use wire::{Block, CString, Count, Cursor, Item, List, Ucs2};
+
+// What a list holds, as the canonical bytes have it.
+pub(crate) trait Canonical: Item {
+    fn compared(self, x: Compared, due: &[u8], body: &[u8]) -> Compared;
+}
 
 // So many bytes are compared, and whether all were the same.
 #[derive(Clone, Copy)]
@@ -24,35 +26,27 @@ impl Compared {
 
     // Whether all bytes were compared and were the same.
     pub(crate) fn is_whole(self, due: &[u8]) -> bool {
-        if self.same {
-            return self.at == due.len();
-        }
-        false
+        self.same && self.at == due.len()
     }
 
     // ---- numbers
 
     pub(crate) fn u8(self, due: &[u8], n: u8) -> Compared {
-        let at = self.at;
-        if at < due.len() {
-            if due[at] == n {
-                return Compared {
-                    at: at + 1,
-                    same: self.same,
-                };
-            }
+        if due.get(self.at) != Some(&n) {
+            return self.different();
         }
-        self.different()
+        Compared {
+            at: self.at + 1,
+            same: self.same,
+        }
     }
 
     pub(crate) fn u16(self, due: &[u8], n: u16) -> Compared {
-        let x = self.u8(due, (n % 256) as u8);
-        x.u8(due, (n / 256) as u8)
+        self.all(due, &n.to_le_bytes())
     }
 
     pub(crate) fn u32(self, due: &[u8], n: u32) -> Compared {
-        let x = self.u16(due, (n % 65536) as u16);
-        x.u16(due, (n / 65536) as u16)
+        self.all(due, &n.to_le_bytes())
     }
 
     pub(crate) fn length(self, due: &[u8], n: usize) -> Compared {
@@ -61,14 +55,16 @@ impl Compared {
 
     // ---- strings and blocks
 
-    pub(crate) fn bytes(self, due: &[u8], bytes: &[u8]) -> Compared {
-        let mut x = self.length(due, bytes.len());
-        let mut i = 0;
-        while i < bytes.len() {
-            x = x.u8(due, bytes[i]);
-            i += 1;
+    fn all(self, due: &[u8], bytes: &[u8]) -> Compared {
+        let mut x = self;
+        for byte in bytes {
+            x = x.u8(due, *byte);
         }
         x
+    }
+
+    pub(crate) fn bytes(self, due: &[u8], bytes: &[u8]) -> Compared {
+        self.length(due, bytes.len()).all(due, bytes)
     }
 
     pub(crate) fn block(self, due: &[u8], body: &[u8], block: Block) -> Compared {
@@ -83,139 +79,37 @@ impl Compared {
         let len = string.len;
         let mut x = self.length(due, len);
         let mut c = Cursor { at: string.start };
-        let mut i = 0;
-        while i < len {
-            let U16Read::Read(unit, next) = c.u16(body) else {
+        for _ in 0..len {
+            let Ok((unit, next)) = c.u16(body) else {
                 return x.different();
             };
             x = x.u16(due, unit);
             c = next;
-            i += 1;
         }
         x
     }
 
-    // ---- lists; the bound of each loop is above any count
+    // ---- lists: a 1 before each item, a 0 behind the last
 
-    pub(crate) fn u16_list(self, due: &[u8], body: &[u8], list: U16List) -> Compared {
+    pub(crate) fn list<T: Canonical, N: Count>(
+        self,
+        due: &[u8],
+        body: &[u8],
+        list: List<T, N>,
+    ) -> Compared {
         let mut x = self;
         let mut rest = list;
-        let mut count: u64 = 0;
-        while count < 65536 {
-            let U16Next::Item(n, more) = rest.next(body) else {
-                return x.u8(due, 0);
+        for _ in 0..list.left.items() {
+            let Ok(Some((item, more))) = rest.next(body) else {
+                break;
             };
-            x = x.u8(due, 1);
-            x = x.u16(due, n);
+            x = item.compared(x.u8(due, 1), due, body);
             rest = more;
-            count += 1;
         }
-        x
-    }
-
-    pub(crate) fn u32_list(self, due: &[u8], body: &[u8], list: U32List) -> Compared {
-        let mut x = self;
-        let mut rest = list;
-        let mut count: u64 = 0;
-        while count < 65536 {
-            let U32Next::Item(n, more) = rest.next(body) else {
-                return x.u8(due, 0);
-            };
-            x = x.u8(due, 1);
-            x = x.u32(due, n);
-            rest = more;
-            count += 1;
-        }
-        x
-    }
-
-    fn channel_level(self, due: &[u8], level: ChannelLevel) -> Compared {
-        let x = self.u8(due, 1);
-        let x = x.u8(due, level.universe_index);
-        let x = x.u16(due, level.channel);
-        x.u8(due, level.channel_level)
-    }
-
-    pub(crate) fn channel_levels(self, due: &[u8], body: &[u8], list: ChannelLevels) -> Compared {
-        let mut x = self;
-        let mut rest = list;
-        let mut count: u64 = 0;
-        while count < 65536 {
-            let ChannelLevelsNext::Item(level, more) = rest.next(body) else {
-                return x.u8(due, 0);
-            };
-            x = x.channel_level(due, level);
-            rest = more;
-            count += 1;
-        }
-        x
-    }
-
-    // ---- laser feeds
-
-    pub(crate) fn feed_names(self, due: &[u8], body: &[u8], list: FeedNames) -> Compared {
-        let mut x = self;
-        let mut rest = list;
-        let mut count: u64 = 0;
-        while count < 65536 {
-            let FeedNamesNext::Item(name, more) = rest.next(body) else {
-                return x.u8(due, 0);
-            };
-            x = x.u8(due, 1);
-            x = x.ucs2(due, body, name);
-            rest = more;
-            count += 1;
-        }
-        x
-    }
-
-    fn laser_point(self, due: &[u8], point: LaserPoint) -> Compared {
-        let x = self.u8(due, 1);
-        let x = x.u8(due, point.x_low_byte);
-        let x = x.u8(due, point.y_low_byte);
-        let x = x.u8(due, point.xy_high_nibbles);
-        x.u16(due, point.color)
-    }
-
-    pub(crate) fn laser_points(self, due: &[u8], body: &[u8], list: LaserPoints) -> Compared {
-        let mut x = self;
-        let mut rest = list;
-        let mut count: u64 = 0;
-        while count < 65536 {
-            let LaserPointsNext::Item(point, more) = rest.next(body) else {
-                return x.u8(due, 0);
-            };
-            x = x.laser_point(due, point);
-            rest = more;
-            count += 1;
-        }
-        x
+        x.u8(due, 0)
     }
 
     // ---- fixtures
-
-    fn identifier(self, due: &[u8], body: &[u8], identifier: Identifier) -> Compared {
-        let identifier_type = identifier.identifier_type;
-        let x = self.u8(due, 1);
-        let x = x.u8(due, identifier_type.code());
-        let x = x.u16(due, (identifier.data_size() % 65536) as u16);
-        x.block(due, body, identifier.data)
-    }
-
-    fn identifiers(self, due: &[u8], body: &[u8], list: Identifiers) -> Compared {
-        let mut x = self;
-        let mut rest = list;
-        let mut count: u64 = 0;
-        while count < 65536 {
-            let IdentifiersNext::Item(identifier, more) = rest.next(body) else {
-                return x.u8(due, 0);
-            };
-            x = x.identifier(due, body, identifier);
-            rest = more;
-            count += 1;
-        }
-        x
-    }
 
     fn floats(self, due: &[u8], bits: FloatBits) -> Compared {
         let x = self.u32(due, bits.position_x);
@@ -242,32 +136,63 @@ impl Compared {
         let x = x.ucs2(due, body, strings.note);
         x.floats(due, data.bits)
     }
+}
 
-    fn fixture(self, due: &[u8], body: &[u8], fixture: Fixture) -> Compared {
-        let x = self.u8(due, 1);
-        let x = x.u32(due, fixture.fixture_identifier);
-        let x = x.ucs2(due, body, fixture.manufacturer_name);
-        let x = x.ucs2(due, body, fixture.fixture_name);
-        let x = x.ucs2(due, body, fixture.mode_name);
-        let x = x.u16(due, fixture.channel_count);
-        let x = x.u8(due, fixture.is_dimmer);
-        let x = x.u8(due, fixture.identifier_count());
-        let x = x.identifiers(due, body, fixture.identifiers);
-        x.fixture_data(due, body, fixture.data, fixture.data_strings)
+// ---- items
+
+impl Canonical for u16 {
+    fn compared(self, x: Compared, due: &[u8], body: &[u8]) -> Compared {
+        x.u16(due, self)
     }
+}
 
-    pub(crate) fn fixtures(self, due: &[u8], body: &[u8], list: Fixtures) -> Compared {
-        let mut x = self;
-        let mut rest = list;
-        let mut count: u64 = 0;
-        while count < 65536 {
-            let FixturesNext::Item(fixture, more) = rest.next(body) else {
-                return x.u8(due, 0);
-            };
-            x = x.fixture(due, body, fixture);
-            rest = more;
-            count += 1;
-        }
-        x
+impl Canonical for u32 {
+    fn compared(self, x: Compared, due: &[u8], body: &[u8]) -> Compared {
+        x.u32(due, self)
+    }
+}
+
+impl Canonical for Ucs2 {
+    fn compared(self, x: Compared, due: &[u8], body: &[u8]) -> Compared {
+        x.ucs2(due, body, self)
+    }
+}
+
+impl Canonical for ChannelLevel {
+    fn compared(self, x: Compared, due: &[u8], body: &[u8]) -> Compared {
+        let x = x.u8(due, self.universe_index);
+        let x = x.u16(due, self.channel);
+        x.u8(due, self.channel_level)
+    }
+}
+
+impl Canonical for LaserPoint {
+    fn compared(self, x: Compared, due: &[u8], body: &[u8]) -> Compared {
+        let x = x.u8(due, self.x_low_byte);
+        let x = x.u8(due, self.y_low_byte);
+        let x = x.u8(due, self.xy_high_nibbles);
+        x.u16(due, self.color)
+    }
+}
+
+impl Canonical for Identifier {
+    fn compared(self, x: Compared, due: &[u8], body: &[u8]) -> Compared {
+        let x = x.u8(due, self.identifier_type.code());
+        let x = x.u16(due, (self.data_size() % 65536) as u16);
+        x.block(due, body, self.data)
+    }
+}
+
+impl Canonical for Fixture {
+    fn compared(self, x: Compared, due: &[u8], body: &[u8]) -> Compared {
+        let x = x.u32(due, self.fixture_identifier);
+        let x = x.ucs2(due, body, self.manufacturer_name);
+        let x = x.ucs2(due, body, self.fixture_name);
+        let x = x.ucs2(due, body, self.mode_name);
+        let x = x.u16(due, self.channel_count);
+        let x = x.u8(due, self.is_dimmer);
+        let x = x.u8(due, self.identifier_count());
+        let x = x.list(due, body, self.identifiers);
+        x.fixture_data(due, body, self.data, self.data_strings)
     }
 }

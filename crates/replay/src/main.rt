@@ -5,12 +5,9 @@
 mod answers;
 mod compared;
 
-ghost use Rattle.std.specs.Prelude.{◌≤◌};
-
 use answers::Answer;
 use intake::read_full;
 use std::io::Read;
-use wire::Block;
 
 // The bodies that were read, that were refused, and whose answer is not the one that is due.
 #[derive(Clone, Copy)]
@@ -55,128 +52,79 @@ fn answer(kind: u8, body: &[u8], due: &[u8]) -> Answer {
 }
 
 fn agrees(answer: Answer, number: u8, due: &[u8]) -> bool {
-    let compared = answer.compared;
-    if answer.number == 0 {
-        if number == 0 {
-            return compared.is_whole(due);
-        }
-        return false;
+    match answer {
+        Ok(compared) => number == 0 && compared.is_whole(due),
+        Err(refusal) => refusal.number() == number,
     }
-    answer.number == number
 }
 
 // ---- counts
 
-fn one_more(n: u64) -> u64 {
-    std::num::wrapping_add_u64(n, 1)
-}
-
 impl Tally {
-    fn count(self, number: u8, agree: bool) -> Tally {
-        let mut t = self;
-        if !agree {
-            t.differ = one_more(t.differ);
-        } else if number == 0 {
-            t.read = one_more(t.read);
-        } else {
-            t.refused = one_more(t.refused);
-        }
-        t
-    }
-
-    fn compare(self, kind: u8, body: &[u8], number: u8, due: &[u8]) -> Tally {
+    fn compare(mut self, kind: u8, body: &[u8], number: u8, due: &[u8]) -> Tally {
         let answer = answer(kind, body, due);
-        self.count(answer.number, agrees(answer, number, due))
+        let count = if !agrees(answer, number, due) {
+            &mut self.differ
+        } else if answer.is_ok() {
+            &mut self.read
+        } else {
+            &mut self.refused
+        };
+        *count = count.wrapping_add(1);
+        self
     }
-}
-
-fn low_high(low: u8, high: u8) -> usize
-    ensures { result ≤ 65535 }
-{
-    (low as usize) + 256 * (high as usize)
 }
 
 fn replay(tally: Tally, record: &[u8]) -> Tally {
     if record.len() < 4 {
         return tally;
     }
-    let end = 3 + low_high(record[1], record[2]);
+    let end = 3 + usize::from(u16::from_le_bytes([record[1], record[2]]));
     if record.len() <= end {
         return tally;
     }
     tally.compare(record[0], &record[3..end], record[end], &record[end + 1..])
 }
 
-// ---- text
-
-fn decimal(stdout: &impl Print, key: &[u8], n: u64) {
-    let _ = stdout.write_all(key);
-    let _ = stdout.print(n);
-}
-
-fn show(stdout: &impl Print, tally: Tally) {
-    decimal(stdout, b"read=", tally.read);
-    decimal(stdout, b" refused=", tally.refused);
-    decimal(stdout, b" differ=", tally.differ);
-    let _ = stdout.write_all(b"\n");
-}
-
 // ---- the sample
 
-// The length of the next record, 0 at the sample's end.
-fn record_length(stdin: &mut impl Read) -> usize {
+// The length of the next record; none at the sample's end.
+fn record_length(stdin: &mut impl Read) -> Option<u16> {
     let mut head = [0u8; 2];
     if read_full(stdin, &mut head) < 2 {
-        return 0;
+        return None;
     }
-    low_high(head[0], head[1])
+    Some(u16::from_le_bytes(head))
 }
 
-// The tally with one record more, and whether there was one.
-#[derive(Clone, Copy)]
-struct Replayed {
-    tally: Tally,
-    more: bool,
-}
-
-// The next record into the first bytes of the buffer; its length.
-fn next_record(stdin: &mut impl Read, buffer: &mut [u8]) -> usize {
-    let n = record_length(stdin);
-    if buffer.len() < n {
-        return 0;
+// The next record, in the first bytes of the buffer; none where nothing is read.
+fn next_record<'a>(stdin: &mut impl Read, buffer: &'a mut [u8; 65536]) -> Option<&'a [u8]> {
+    let n = usize::from(record_length(stdin)?);
+    let len = read_full(stdin, &mut buffer[..n]);
+    if len == 0 {
+        return None;
     }
-    read_full(stdin, &mut buffer[..n])
-}
-
-fn replay_next(stdin: &mut impl Read, tally: Tally) -> Replayed {
-    let mut buffer = [0u8; 65536];
-    let n = next_record(stdin, &mut buffer);
-    if n == 0 {
-        return Replayed { tally, more: false };
-    }
-    let record = Block { start: 0, len: n };
-    Replayed {
-        tally: replay(tally, record.bytes(&buffer)),
-        more: true,
-    }
+    Some(&buffer[..len])
 }
 
 fn main(rt: HostRuntime) {
     let mut stdin = rt.stdin();
+    let mut buffer = [0u8; 65536];
     let mut tally = Tally {
         read: 0,
         refused: 0,
         differ: 0,
     };
-    let mut records: u64 = 0;
-    while records < 65536 {
-        let next = replay_next(&mut stdin, tally);
-        tally = next.tally;
-        if next.more {
-            records += 1;
-        } else {
+    for _ in 0..65536 {
+        let Some(record) = next_record(&mut stdin, &mut buffer) else {
             break;
-        }
+        };
+        tally = replay(tally, record);
     }
-    show(&rt.stdout(), tally);
+    let Tally {
+        read,
+        refused,
+        differ,
+    } = tally;
+    let _ = println!(rt; "read={read} refused={refused} differ={differ}");
 }

@@ -1,69 +1,73 @@
--- What an answer says determines it: nothing is lost.
-use mathlib.Core.Path.{◌≡◌, refl}
+-- A view determines what is viewed: nothing is lost.
+use Rattle.std.proofs.Common.{ℕ, ◌≡◌, refl, ap}
+use Rattle.std.specs.Prelude.{Result, Ok, Err, Option, Some, None}
 use Rattle.format.specs.View.{View, Next, item, done, broken}
 use Rattle.protocol.specs.Kind as kind
 use Rattle.protocol.specs.Kind.{body_of, channel_level_format}
-use Rattle.protocol.proofs.Bodies.{body_by, if_kind, as_kind}
-use Rattle.wire.proofs.Says.{read_by}
-use Rattle.sdmx.specs.Says.{capa, unam, chbk, chls, sxus, capa_says, unam_says, chbk_says, chls_says, sxus_says, channel_levels_next_says}
-use Rattle.sdmx.specs.Says.{message_kind, message_view, message_says}
+use Rattle.protocol.proofs.Bodies.{if_kind, as_kind}
+use Rattle.refusal.specs.declared.Refusal.{Refusal}
+use Rattle.refusal.proofs.Exact.{refusal_of, refusal-exact}
+use Rattle.wire.specs.Says.{next_says, number_view}
+use Rattle.wire.specs.declared.List.{List}
+use Rattle.sdmx.specs.Says.{capa, unam, chbk, chls, sxus, capa_view, unam_view, chbk_view, chls_view, sxus_view, channel_level_view}
+use Rattle.sdmx.specs.Says.{message_kind, message_view}
 use Rattle.sdmx.specs.declared.Capa.{Capa}
 use Rattle.sdmx.specs.declared.UNam.{UNam}
 use Rattle.sdmx.specs.declared.ChBk.{ChBk}
+use Rattle.sdmx.specs.declared.ChannelLevel.{ChannelLevel}
 use Rattle.sdmx.specs.declared.ChLs.{ChLs}
 use Rattle.sdmx.specs.declared.Sxus.{Sxus}
-use Rattle.sdmx.specs.declared.CapaRead.{CapaRead}
-use Rattle.sdmx.specs.declared.UNamRead.{UNamRead}
-use Rattle.sdmx.specs.declared.ChBkRead.{ChBkRead}
-use Rattle.sdmx.specs.declared.ChLsRead.{ChLsRead}
-use Rattle.sdmx.specs.declared.SxusRead.{SxusRead}
-use Rattle.sdmx.specs.declared.ChannelLevelsNext.{ChannelLevelsNext}
 use Rattle.sdmx.specs.declared.Message.{Message}
-use Rattle.sdmx.specs.declared.MessageRead.{MessageRead}
-use Rattle.sdmx.specs.declared.ChannelLevelsNext.TheVariants as levels-next
-use Rattle.sdmx.specs.declared.CapaRead.TheVariants as capa-read
-use Rattle.sdmx.specs.declared.UNamRead.TheVariants as unam-read
-use Rattle.sdmx.specs.declared.ChBkRead.TheVariants as chbk-read
-use Rattle.sdmx.specs.declared.ChLsRead.TheVariants as chls-read
-use Rattle.sdmx.specs.declared.SxusRead.TheVariants as sxus-read
 use Rattle.sdmx.specs.declared.Message.TheVariants as message
-use Rattle.sdmx.specs.declared.MessageRead.TheVariants as answer
 
 abbrev capa_of : View capa → Capa
-capa_of (a, a') = record { capabilities = record { at = a; left = a' } }
+capa_of (a, a') = record { capabilities = record { at = a; left = a'; of = record {} } }
 
-pub capa-exact : (r : CapaRead) → r ≡ read_by capa-read.Read capa-read.Refused capa_of (capa_says r)
-capa-exact = elim [ capa-read.Read x c ↦ refl | capa-read.Refused n ↦ refl ]
+pub capa_view-exact : (x : Capa) → x ≡ capa_of (capa_view x)
+capa_view-exact x = refl
 
 abbrev unam_of : View unam → UNam
 unam_of (a, (b, b')) = record { universe_index = a; universe_name = record { start = b; len = b' } }
 
-pub unam-exact : (r : UNamRead) → r ≡ read_by unam-read.Read unam-read.Refused unam_of (unam_says r)
-unam-exact = elim [ unam-read.Read x c ↦ refl | unam-read.Refused n ↦ refl ]
+pub unam_view-exact : (x : UNam) → x ≡ unam_of (unam_view x)
+unam_view-exact x = refl
 
 abbrev chbk_of : View chbk → ChBk
 chbk_of (a, (b, (d, (f, f')))) = record { blind = a; universe_index = b; first_channel = d; channel_levels = record { start = f; len = f' } }
 
-pub chbk-exact : (r : ChBkRead) → r ≡ read_by chbk-read.Read chbk-read.Refused chbk_of (chbk_says r)
-chbk-exact = elim [ chbk-read.Read x c ↦ refl | chbk-read.Refused n ↦ refl ]
+pub chbk_view-exact : (x : ChBk) → x ≡ chbk_of (chbk_view x)
+chbk_view-exact x = refl
 
 abbrev chls_of : View chls → ChLs
-chls_of (a, a') = record { channel_levels = record { at = a; left = a' } }
+chls_of (a, a') = record { channel_levels = record { at = a; left = a'; of = record {} } }
 
-pub chls-exact : (r : ChLsRead) → r ≡ read_by chls-read.Read chls-read.Refused chls_of (chls_says r)
-chls-exact = elim [ chls-read.Read x c ↦ refl | chls-read.Refused n ↦ refl ]
+pub chls_view-exact : (x : ChLs) → x ≡ chls_of (chls_view x)
+chls_view-exact x = refl
 
 abbrev sxus_of : View sxus → Sxus
 sxus_of (a, (b, b')) = record { universe_index = a; connection_string = record { start = b; len = b' } }
 
-pub sxus-exact : (r : SxusRead) → r ≡ read_by sxus-read.Read sxus-read.Refused sxus_of (sxus_says r)
-sxus-exact = elim [ sxus-read.Read x c ↦ refl | sxus-read.Refused n ↦ refl ]
+pub sxus_view-exact : (x : Sxus) → x ≡ sxus_of (sxus_view x)
+sxus_view-exact x = refl
 
-abbrev channel_levels_next_of : Next (View channel_level_format) → ChannelLevelsNext
-channel_levels_next_of = elim [ item (a, (b, d)) e n ↦ levels-next.Item (record { universe_index = a; channel = b; channel_level = d }) (record { at = e; left = n }) | done ↦ levels-next.Done | broken n ↦ levels-next.Refused n ]
+-- a record of a channel list
+abbrev channel_level_of : View channel_level_format → ChannelLevel
+channel_level_of (a, (b, d)) = record { universe_index = a; channel = b; channel_level = d }
 
-pub channel-levels-next-exact : (r : ChannelLevelsNext) → r ≡ channel_levels_next_of (channel_levels_next_says r)
-channel-levels-next-exact = elim [ levels-next.Item x l ↦ refl | levels-next.Done ↦ refl | levels-next.Refused n ↦ refl ]
+pub channel_level_view-exact : (x : ChannelLevel) → x ≡ channel_level_of (channel_level_view x)
+channel_level_view-exact x = refl
+
+-- a step over the records
+abbrev channel_levels_next_of : Next (View channel_level_format) → Result (Option (ChannelLevel × List ChannelLevel ℕ)) Refusal
+channel_levels_next_of (item v e n) = Ok (Some (channel_level_of v, record { at = e; left = n; of = record {} }))
+channel_levels_next_of done = Ok None
+channel_levels_next_of (broken n) = Err (refusal_of n)
+
+pub channel_levels_next-exact : (r : Result (Option (ChannelLevel × List ChannelLevel ℕ)) Refusal)
+    → r ≡ channel_levels_next_of (next_says channel_level_view number_view r)
+channel_levels_next-exact (Ok (Some x)) = refl
+channel_levels_next-exact (Ok None) = refl
+channel_levels_next-exact (Err e) = ap (λ (y : Refusal). Err y) (refusal-exact e)
 
 -- ---- messages, a row for each kind
 
@@ -75,14 +79,9 @@ message_of k v =
     (if_kind kind.ChLs (λ x. message.ChLs (chls_of x))
     (as_kind kind.Sxus (λ x. message.Sxus (sxus_of x)))))) k v
 
-pub message-exact : (m : Message) → m ≡ message_of (message_kind m) (message_view m)
-message-exact (message.Capa x) = refl
-message-exact (message.UNam x) = refl
-message-exact (message.ChBk x) = refl
-message-exact (message.ChLs x) = refl
-message-exact (message.Sxus x) = refl
-
-pub message-read-exact : (r : MessageRead) → r ≡ body_by (λ k v e. answer.Read (message_of k v) (record { at = e })) answer.Unknown answer.Refused (message_says r)
-message-read-exact (answer.Read m c) = rw (← message-exact m) refl
-message-read-exact answer.Unknown = refl
-message-read-exact (answer.Refused n) = refl
+pub message_view-exact : (m : Message) → m ≡ message_of (message_kind m) (message_view m)
+message_view-exact (message.Capa x) = refl
+message_view-exact (message.UNam x) = refl
+message_view-exact (message.ChBk x) = refl
+message_view-exact (message.ChLs x) = refl
+message_view-exact (message.Sxus x) = refl

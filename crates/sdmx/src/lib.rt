@@ -2,23 +2,22 @@
 // A size is at most usize::MAX; its contract has 0 for each number, whose width is fixed.
 #![tactic(auto)]
 
-ghost use Rattle.std.specs.Prelude.{◌≡◌};
+ghost use Rattle.std.specs.Prelude.{◌≡◌, map, replicate};
+ghost use Rattle.std.proofs.Common.{refl};
 ghost use Rattle.format.specs.Format.{size};
-ghost use Rattle.format.specs.View.{view, stepped};
+ghost use Rattle.format.specs.View.{view};
 ghost use Rattle.protocol.specs.Layer.{SDMX};
 ghost use Rattle.protocol.specs.Kind.{channel_level_format};
 ghost use Rattle.protocol.specs.Step.{read_body};
 ghost use Rattle.put.specs.Put.{capped, put_at};
-ghost use Rattle.sdmx.specs.Says.{capa, unam, chbk, chls, sxus, capa_says, unam_says, chbk_says, chls_says, sxus_says, channel_level_says, channel_levels_next_says, message_says};
+ghost use Rattle.refusal.specs.Says.{answer_says};
+ghost use Rattle.sdmx.specs.Says.{capa, unam, chbk, chls, sxus, capa_view, unam_view, chbk_view, chls_view, sxus_view, channel_level_view};
+ghost use Rattle.sdmx.specs.Says.{level_value, message_kind, message_view};
+ghost use Rattle.wire.specs.Says.{says, message_says};
 
-use put::{
-    Put, block_size, block_too_long, cstring_size, holds_zero, more, over_limit, put_block,
-    put_cstring, put_u8, put_u16, put_u16_list, u16_list_size, u16_list_too_long, weigh,
-};
-use wire::{
-    Block, BlockRead, CString, CStringRead, Cursor, ItemsRead, NAME_LIMIT, U8Read, U16List,
-    U16ListRead, U16Read,
-};
+use put::{Faults, ToBytes, cstring_size, list_size, put_cstring, put_list, put_u8, put_u16};
+use refusal::Refusal;
+use wire::{Block, CString, Cursor, Item, List, NAME_LIMIT};
 
 // The layer: its cookie, and the length of its headers with the base header.
 #[derive(Clone, Copy)]
@@ -33,13 +32,7 @@ impl Sdmx {
 // Capabilities of the sender.
 #[derive(Clone, Copy)]
 pub struct Capa {
-    pub capabilities: U16List,
-}
-
-#[derive(Clone, Copy)]
-pub enum CapaRead {
-    Read(Capa, Cursor),
-    Refused(u8),
+    pub capabilities: List<u16, u16>,
 }
 
 impl Capa {
@@ -60,33 +53,27 @@ impl Capa {
     // The Rust's constant says 103, its comment 104, which alone tells it from ETC Net2.
     pub const MA_NET_EXTERNAL_SOURCES: u16 = 104;
 
-    pub fn read_from_bytes(body: &[u8]) -> CapaRead
-        ensures { capa_says result ≡ view capa body.now 0 }
+    pub fn read_from_bytes(body: &[u8]) -> Result<(Capa, Cursor), Refusal>
+        ensures { says capa_view result ≡ view capa body.now 0 }
     {
-        let c = Cursor { at: 0 };
-        let U16ListRead::Read(capabilities, c) = c.u16_list(body) else {
-            return CapaRead::Refused(7);
-        };
-        CapaRead::Read(Capa { capabilities }, c)
+        let (capabilities, c) = List::read(body, Cursor::START)?;
+        Ok((Capa { capabilities }, c))
     }
 
+    #[tactic(auto, unfolding(format::specs::Format::size))]
     pub fn size_bytes(capabilities: &[u16]) -> usize
         ensures { result ≡ capped (size capa capabilities.now) }
     {
-        more(0, u16_list_size(capabilities))
+        list_size(capabilities)
     }
 
-    pub fn write_to_bytes(out: &mut [u8], at: usize, capabilities: &[u16]) -> Put
-        ensures { (result, out.new) ≡ put_at capa capabilities.now at out.old }
+    pub fn write_to_bytes(out: &mut [u8], at: usize, capabilities: &[u16]) -> Result<usize, Refusal>
+        ensures { (answer_says result, out.new) ≡ put_at capa capabilities.now at out.old }
     {
-        let long = u16_list_too_long(capabilities);
-        let len = Capa::size_bytes(capabilities);
-        let number = weigh(false, false, long, at, len, out.len());
-        if number != 0 {
-            return Put { number, at };
-        }
-        let at = put_u16_list(out, at, capabilities);
-        Put { number: 0, at }
+        Faults::NONE
+            .list(capabilities)
+            .weigh(at, Capa::size_bytes(capabilities), out.len())?;
+        Ok(put_list(out, at, capabilities))
     }
 }
 
@@ -98,39 +85,28 @@ pub struct UNam {
     pub universe_name: CString,
 }
 
-#[derive(Clone, Copy)]
-pub enum UNamRead {
-    Read(UNam, Cursor),
-    Refused(u8),
-}
-
 impl UNam {
     pub const CONTENT_TYPE: u32 = 0x6D614E55;
 
-    pub fn read_from_bytes(body: &[u8]) -> UNamRead
-        ensures { unam_says result ≡ view unam body.now 0 }
+    pub fn read_from_bytes(body: &[u8]) -> Result<(UNam, Cursor), Refusal>
+        ensures { says unam_view result ≡ view unam body.now 0 }
     {
-        let c = Cursor { at: 0 };
-        let U8Read::Read(universe_index, c) = c.u8(body) else {
-            return UNamRead::Refused(7);
-        };
-        let answer = c.cstring(body, NAME_LIMIT);
-        let CStringRead::Read(universe_name, c) = answer else {
-            return UNamRead::Refused(answer.number());
-        };
-        UNamRead::Read(
+        let (universe_index, c) = Cursor::START.u8(body)?;
+        let (universe_name, c) = c.cstring(body, NAME_LIMIT)?;
+        Ok((
             UNam {
                 universe_index,
                 universe_name,
             },
             c,
-        )
+        ))
     }
 
+    #[tactic(auto, unfolding(format::specs::Format::size))]
     pub fn size_bytes(universe_name: &[u8]) -> usize
         ensures { result ≡ capped (size unam (0, universe_name.now)) }
     {
-        more(1, cstring_size(universe_name))
+        cstring_size(universe_name).saturating_add(1)
     }
 
     pub fn write_to_bytes(
@@ -138,19 +114,14 @@ impl UNam {
         at: usize,
         universe_index: u8,
         universe_name: &[u8],
-    ) -> Put
-        ensures { (result, out.new) ≡ put_at unam (universe_index, universe_name.now) at out.old }
+    ) -> Result<usize, Refusal>
+        ensures { (answer_says result, out.new) ≡ put_at unam (universe_index, universe_name.now) at out.old }
     {
-        let zeros = holds_zero(universe_name);
-        let over = over_limit(universe_name.len(), NAME_LIMIT);
-        let len = UNam::size_bytes(universe_name);
-        let number = weigh(zeros, over, false, at, len, out.len());
-        if number != 0 {
-            return Put { number, at };
-        }
+        Faults::NONE
+            .cstring(universe_name, NAME_LIMIT)
+            .weigh(at, UNam::size_bytes(universe_name), out.len())?;
         let at = put_u8(out, at, universe_index);
-        let at = put_cstring(out, at, universe_name);
-        Put { number: 0, at }
+        Ok(put_cstring(out, at, universe_name))
     }
 }
 
@@ -166,32 +137,17 @@ pub struct ChBk {
     pub channel_levels: Block,
 }
 
-#[derive(Clone, Copy)]
-pub enum ChBkRead {
-    Read(ChBk, Cursor),
-    Refused(u8),
-}
-
 impl ChBk {
     pub const CONTENT_TYPE: u32 = 0x6B426843;
 
-    pub fn read_from_bytes(body: &[u8]) -> ChBkRead
-        ensures { chbk_says result ≡ view chbk body.now 0 }
+    pub fn read_from_bytes(body: &[u8]) -> Result<(ChBk, Cursor), Refusal>
+        ensures { says chbk_view result ≡ view chbk body.now 0 }
     {
-        let c = Cursor { at: 0 };
-        let U8Read::Read(blind, c) = c.u8(body) else {
-            return ChBkRead::Refused(7);
-        };
-        let U8Read::Read(universe_index, c) = c.u8(body) else {
-            return ChBkRead::Refused(7);
-        };
-        let U16Read::Read(first_channel, c) = c.u16(body) else {
-            return ChBkRead::Refused(7);
-        };
-        let BlockRead::Read(channel_levels, c) = c.block(body) else {
-            return ChBkRead::Refused(7);
-        };
-        ChBkRead::Read(
+        let (blind, c) = Cursor::START.u8(body)?;
+        let (universe_index, c) = c.u8(body)?;
+        let (first_channel, c) = c.u16(body)?;
+        let (channel_levels, c) = c.block(body)?;
+        Ok((
             ChBk {
                 blind,
                 universe_index,
@@ -199,13 +155,14 @@ impl ChBk {
                 channel_levels,
             },
             c,
-        )
+        ))
     }
 
+    #[tactic(auto, unfolding(format::specs::Format::size))]
     pub fn size_bytes(channel_levels: &[u8]) -> usize
         ensures { result ≡ capped (size chbk (0, (0, (0, channel_levels.now)))) }
     {
-        more(4, block_size(channel_levels))
+        list_size(channel_levels).saturating_add(4)
     }
 
     pub fn write_to_bytes(
@@ -215,26 +172,22 @@ impl ChBk {
         universe_index: u8,
         first_channel: u16,
         channel_levels: &[u8],
-    ) -> Put
-        ensures { (result, out.new) ≡ put_at chbk (blind, (universe_index, (first_channel, channel_levels.now))) at out.old }
+    ) -> Result<usize, Refusal>
+        ensures { (answer_says result, out.new) ≡ put_at chbk (blind, (universe_index, (first_channel, channel_levels.now))) at out.old }
     {
-        let long = block_too_long(channel_levels);
-        let len = ChBk::size_bytes(channel_levels);
-        let number = weigh(false, false, long, at, len, out.len());
-        if number != 0 {
-            return Put { number, at };
-        }
+        Faults::NONE
+            .list(channel_levels)
+            .weigh(at, ChBk::size_bytes(channel_levels), out.len())?;
         let at = put_u8(out, at, blind);
         let at = put_u8(out, at, universe_index);
         let at = put_u16(out, at, first_channel);
-        let at = put_block(out, at, channel_levels);
-        Put { number: 0, at }
+        Ok(put_list(out, at, channel_levels))
     }
 }
 
 // A record of a channel list.
 #[repr(C)]
-#[derive(Clone, Copy)]
+#[derive(Clone, Copy, Default)]
 pub struct ChannelLevel {
     // 0-based
     pub universe_index: u8,
@@ -243,74 +196,57 @@ pub struct ChannelLevel {
     pub channel_level: u8,
 }
 
-#[derive(Clone, Copy)]
-enum ChannelLevelRead {
-    Read(ChannelLevel, Cursor),
-    Short,
-}
-
 impl ChannelLevel {
     // The bytes of a record.
     pub const WIDTH: usize = 4;
+}
 
-    fn read_from_bytes(c: Cursor, body: &[u8]) -> ChannelLevelRead
-        ensures { channel_level_says result ≡ view channel_level_format body.now c.at }
-    {
-        let U8Read::Read(universe_index, c) = c.u8(body) else {
-            return ChannelLevelRead::Short;
-        };
-        let U16Read::Read(channel, c) = c.u16(body) else {
-            return ChannelLevelRead::Short;
-        };
-        let U8Read::Read(channel_level, c) = c.u8(body) else {
-            return ChannelLevelRead::Short;
-        };
-        ChannelLevelRead::Read(
+impl Item for ChannelLevel {
+    ghost format = { channel_level_format };
+
+    ghost item_view = { channel_level_view };
+
+    fn read(body: &[u8], c: Cursor) -> Result<(ChannelLevel, Cursor), Refusal> {
+        let (universe_index, c) = c.u8(body)?;
+        let (channel, c) = c.u16(body)?;
+        let (channel_level, c) = c.u8(body)?;
+        Ok((
             ChannelLevel {
                 universe_index,
                 channel,
                 channel_level,
             },
             c,
-        )
+        ))
     }
+
+    fn pass(body: &[u8], c: Cursor, n: usize) -> Result<Cursor, Refusal> {
+        c.skip_items(body, n, ChannelLevel::WIDTH)
+    }
+}
+
+impl ToBytes for ChannelLevel {
+    ghost format = { channel_level_format };
+
+    ghost value = { level_value };
+
+    ghost WIDTH = { 4 };
+
+    const WIDTH: usize = ChannelLevel::WIDTH;
+
+    fn put(self, out: &mut [u8], at: usize) -> usize {
+        let at = put_u8(out, at, self.universe_index);
+        let at = put_u16(out, at, self.channel);
+        put_u8(out, at, self.channel_level)
+    }
+
+    ghost plain = { (tt, (tt, tt)) };
+
+    ghost wide = { refl };
 }
 
 // What is left of a list of records.
-#[derive(Clone, Copy)]
-pub struct ChannelLevels {
-    pub at: usize,
-    pub left: u16,
-}
-
-#[derive(Clone, Copy)]
-pub enum ChannelLevelsNext {
-    Item(ChannelLevel, ChannelLevels),
-    Done,
-    Refused(u8),
-}
-
-impl ChannelLevels {
-    pub fn next(self, body: &[u8]) -> ChannelLevelsNext
-        ensures { channel_levels_next_says result ≡ stepped channel_level_format body.now self.at self.left }
-    {
-        let left = self.left;
-        if left == 0 {
-            return ChannelLevelsNext::Done;
-        }
-        let c = Cursor { at: self.at };
-        let ChannelLevelRead::Read(level, c) = ChannelLevel::read_from_bytes(c, body) else {
-            return ChannelLevelsNext::Refused(7);
-        };
-        ChannelLevelsNext::Item(
-            level,
-            ChannelLevels {
-                at: c.at,
-                left: left - 1,
-            },
-        )
-    }
-}
+pub type ChannelLevels = List<ChannelLevel, u16>;
 
 // Channel list: levels of single channels.
 #[derive(Clone, Copy)]
@@ -318,27 +254,34 @@ pub struct ChLs {
     pub channel_levels: ChannelLevels,
 }
 
-#[derive(Clone, Copy)]
-pub enum ChLsRead {
-    Read(ChLs, Cursor),
-    Refused(u8),
-}
-
 impl ChLs {
     pub const CONTENT_TYPE: u32 = 0x734C6843;
 
-    pub fn read_from_bytes(body: &[u8]) -> ChLsRead
-        ensures { chls_says result ≡ view chls body.now 0 }
+    pub fn read_from_bytes(body: &[u8]) -> Result<(ChLs, Cursor), Refusal>
+        ensures { says chls_view result ≡ view chls body.now 0 }
     {
-        let c = Cursor { at: 0 };
-        let ItemsRead::Read(items, c) = c.items(body, ChannelLevel::WIDTH) else {
-            return ChLsRead::Refused(7);
-        };
-        let channel_levels = ChannelLevels {
-            at: items.at,
-            left: items.left,
-        };
-        ChLsRead::Read(ChLs { channel_levels }, c)
+        let (channel_levels, c) = List::read(body, Cursor::START)?;
+        Ok((ChLs { channel_levels }, c))
+    }
+
+    // Of so many records, whatever they hold.
+    pub fn size_bytes(count: usize) -> usize
+        ensures { result ≡ capped (size chls (replicate count (0, (0, 0)))) }
+    {
+        count.saturating_mul(ChannelLevel::WIDTH).saturating_add(2)
+    }
+
+    pub fn write_to_bytes(
+        out: &mut [u8],
+        at: usize,
+        channel_levels: &[ChannelLevel],
+    ) -> Result<usize, Refusal>
+        ensures { (answer_says result, out.new) ≡ put_at chls (map level_value channel_levels.now) at out.old }
+    {
+        Faults::NONE
+            .list(channel_levels)
+            .weigh(at, list_size(channel_levels), out.len())?;
+        Ok(put_list(out, at, channel_levels))
     }
 }
 
@@ -351,39 +294,28 @@ pub struct Sxus {
     pub connection_string: CString,
 }
 
-#[derive(Clone, Copy)]
-pub enum SxusRead {
-    Read(Sxus, Cursor),
-    Refused(u8),
-}
-
 impl Sxus {
     pub const CONTENT_TYPE: u32 = 0x53555853;
 
-    pub fn read_from_bytes(body: &[u8]) -> SxusRead
-        ensures { sxus_says result ≡ view sxus body.now 0 }
+    pub fn read_from_bytes(body: &[u8]) -> Result<(Sxus, Cursor), Refusal>
+        ensures { says sxus_view result ≡ view sxus body.now 0 }
     {
-        let c = Cursor { at: 0 };
-        let U8Read::Read(universe_index, c) = c.u8(body) else {
-            return SxusRead::Refused(7);
-        };
-        let answer = c.cstring(body, NAME_LIMIT);
-        let CStringRead::Read(connection_string, c) = answer else {
-            return SxusRead::Refused(answer.number());
-        };
-        SxusRead::Read(
+        let (universe_index, c) = Cursor::START.u8(body)?;
+        let (connection_string, c) = c.cstring(body, NAME_LIMIT)?;
+        Ok((
             Sxus {
                 universe_index,
                 connection_string,
             },
             c,
-        )
+        ))
     }
 
+    #[tactic(auto, unfolding(format::specs::Format::size))]
     pub fn size_bytes(connection_string: &[u8]) -> usize
         ensures { result ≡ capped (size sxus (0, connection_string.now)) }
     {
-        more(1, cstring_size(connection_string))
+        cstring_size(connection_string).saturating_add(1)
     }
 
     pub fn write_to_bytes(
@@ -391,19 +323,14 @@ impl Sxus {
         at: usize,
         universe_index: u8,
         connection_string: &[u8],
-    ) -> Put
-        ensures { (result, out.new) ≡ put_at sxus (universe_index, connection_string.now) at out.old }
+    ) -> Result<usize, Refusal>
+        ensures { (answer_says result, out.new) ≡ put_at sxus (universe_index, connection_string.now) at out.old }
     {
-        let zeros = holds_zero(connection_string);
-        let over = over_limit(connection_string.len(), NAME_LIMIT);
-        let len = Sxus::size_bytes(connection_string);
-        let number = weigh(zeros, over, false, at, len, out.len());
-        if number != 0 {
-            return Put { number, at };
-        }
+        Faults::NONE
+            .cstring(connection_string, NAME_LIMIT)
+            .weigh(at, Sxus::size_bytes(connection_string), out.len())?;
         let at = put_u8(out, at, universe_index);
-        let at = put_cstring(out, at, connection_string);
-        Put { number: 0, at }
+        Ok(put_cstring(out, at, connection_string))
     }
 }
 
@@ -417,40 +344,36 @@ pub enum Message {
     Sxus(Sxus),
 }
 
-// A message with the cursor behind its body; a content type of no kind that is read; a body that cannot be read.
-#[derive(Clone, Copy)]
-pub enum MessageRead {
-    Read(Message, Cursor),
-    Unknown,
-    Refused(u8),
-}
-
 impl Message {
-    pub fn read_from_bytes(content_type: u32, body: &[u8]) -> MessageRead
-        ensures { message_says result ≡ read_body SDMX content_type body.now }
+    // A message with the cursor behind its body; none where its content type is of no kind that is read.
+    pub fn read_from_bytes(
+        content_type: u32,
+        body: &[u8],
+    ) -> Result<Option<(Message, Cursor)>, Refusal>
+        ensures { message_says message_kind message_view result ≡ read_body SDMX content_type body.now }
     {
         match content_type {
-            Capa::CONTENT_TYPE => match Capa::read_from_bytes(body) {
-                CapaRead::Read(m, c) => MessageRead::Read(Message::Capa(m), c),
-                CapaRead::Refused(n) => MessageRead::Refused(n),
-            },
-            UNam::CONTENT_TYPE => match UNam::read_from_bytes(body) {
-                UNamRead::Read(m, c) => MessageRead::Read(Message::UNam(m), c),
-                UNamRead::Refused(n) => MessageRead::Refused(n),
-            },
-            ChBk::CONTENT_TYPE => match ChBk::read_from_bytes(body) {
-                ChBkRead::Read(m, c) => MessageRead::Read(Message::ChBk(m), c),
-                ChBkRead::Refused(n) => MessageRead::Refused(n),
-            },
-            ChLs::CONTENT_TYPE => match ChLs::read_from_bytes(body) {
-                ChLsRead::Read(m, c) => MessageRead::Read(Message::ChLs(m), c),
-                ChLsRead::Refused(n) => MessageRead::Refused(n),
-            },
-            Sxus::CONTENT_TYPE => match Sxus::read_from_bytes(body) {
-                SxusRead::Read(m, c) => MessageRead::Read(Message::Sxus(m), c),
-                SxusRead::Refused(n) => MessageRead::Refused(n),
-            },
-            _ => MessageRead::Unknown,
+            Capa::CONTENT_TYPE => {
+                let (m, c) = Capa::read_from_bytes(body)?;
+                Ok(Some((Message::Capa(m), c)))
+            }
+            UNam::CONTENT_TYPE => {
+                let (m, c) = UNam::read_from_bytes(body)?;
+                Ok(Some((Message::UNam(m), c)))
+            }
+            ChBk::CONTENT_TYPE => {
+                let (m, c) = ChBk::read_from_bytes(body)?;
+                Ok(Some((Message::ChBk(m), c)))
+            }
+            ChLs::CONTENT_TYPE => {
+                let (m, c) = ChLs::read_from_bytes(body)?;
+                Ok(Some((Message::ChLs(m), c)))
+            }
+            Sxus::CONTENT_TYPE => {
+                let (m, c) = Sxus::read_from_bytes(body)?;
+                Ok(Some((Message::Sxus(m), c)))
+            }
+            _ => Ok(None),
         }
     }
 }

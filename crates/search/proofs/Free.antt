@@ -1,9 +1,8 @@
 -- Laws of what a search has passed.
-use Prim.Native.Nat.{ℕ, ◌+◌, ◌-◌, ◌*◌, ◌/◌, ◌%◌, ◌≤◌, ◌<◌}
+use Prim.Native.Nat.{ℕ, ◌+◌, ◌-◌, ◌*◌, ◌/◌, ◌%◌, ◌≤◌, ◌<◌, min}
 use mathlib.Core.Path.{◌≡◌, refl, sym, subst}
 use mathlib.Core.Bool.{Bool, true, false}
 use native.Mathlib.Omega.{arith}
-use borrow.Author.Rules as kit
 use borrow.Author.Tests.{ltb-true, ltb-false}
 use lib.Dec.{ltb}
 use Rattle.search.specs.Free.{Rows, Free, First}
@@ -50,10 +49,10 @@ first-free x h = let w = x.within in free-to x.passed (omega arith)
 pub row_one : (f : ℕ → ℕ) (k : ℕ) → (f k ≡ 0 → ⊥) → Rows f k 1
 row_one f k n = record { free = λ l h z. let e : k + 16 * l ≡ k = omega arith in n (subst (λ (x : ℕ). f x ≡ 0) e z) }
 
-pub rows-least : {f : ℕ → ℕ} {k : ℕ} (m : ℕ) {a b r : ℕ} → (r ≤ a) × (r ≤ b) →
+pub rows-least : {f : ℕ → ℕ} {k : ℕ} (m : ℕ) {a b r : ℕ} → r ≡ min a b →
     ((a ≡ 0 → ⊥) → Rows f k m) → ((b ≡ 0 → ⊥) → Rows f (k + 16 * m) m) →
     (r ≡ 0 → ⊥) → Rows f k (m + m)
-rows-least {f} {k} m low first next n = record { free = all }
+rows-least {f} {k} m least first next n = record { free = all }
   where
     all : (l : ℕ) → l < m + m → f (k + 16 * l) ≡ 0 → ⊥
     all l h z = split m l ⊥
@@ -69,6 +68,3 @@ free-rows {f} m i all = record { rises = omega arith; free = one }
     one k p q z =
         let e : i + (k - i) % 16 + 16 * ((k - i) / 16) ≡ k = omega arith in
         (all ((k - i) % 16) (omega arith)).free ((k - i) / 16) (omega arith) (subst (λ (x : ℕ). f x ≡ 0) (sym e) z)
-
--- what `search` is given at the needs of a loop that passes
-pub ruleset needs = (kit.rules, free-none)

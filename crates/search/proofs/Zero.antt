@@ -8,7 +8,8 @@ use borrow.Author.Tests.{eq-eqb, ne_eqb, lt-ltb, le-ltb, ltb-true, ltb-false}
 use lib.Dec.{eqb, ltb}
 use lib.ListN.{length, take, drop, length-drop, drop_of_length-le}
 use lib.Seq.{take_all, get_or-drop}
-use Rattle.search.specs.Zero.{unless, none, or_none, before_zero, units_before_zero, bytes_to_zero, units_to_zero}
+use Rattle.std.specs.Prelude.{Option, Some, None}
+use Rattle.search.specs.Zero.{unless, only_if, before_zero, units_before_zero, bytes_to_zero, units_to_zero}
 use Rattle.search.specs.Free.{byte_of, unit_of, Free, First}
 
 -- the first zero of a list
@@ -40,25 +41,17 @@ units-counted (b ∷ c ∷ t) (suc n) free within ends =
     rw (ne_eqb (b + 256 * c) 0 (free 0 (omega arith))) (ap suc rest)
 
 -- counted up to a zero, and up to the end
-pub counted-here : (t : List ℕ) (i : ℕ) → Free (byte_of t) 0 i → i < length t → byte_of t i ≡ 0 → i ≡ bytes_to_zero t
+pub counted-here : (t : List ℕ) (i : ℕ) → Free (byte_of t) 0 i → i < length t → byte_of t i ≡ 0 → Some i ≡ bytes_to_zero t
 counted-here t i x h z =
     let n : i ≡ before_zero t = bytes_counted t i (λ k l q. x.free k zero-le l q) (λ _. z) in
     rw (← n, lt-ltb i (length t) h) refl
 
-pub counted_none : (t : List ℕ) (i : ℕ) → Free (byte_of t) 0 i → length t ≤ i → none ≡ bytes_to_zero t
+pub counted_none : (t : List ℕ) (i : ℕ) → Free (byte_of t) 0 i → length t ≤ i → None ≡ bytes_to_zero t
 counted_none t i x h =
     let n : i ≡ before_zero t = bytes_counted t i (λ k l q. x.free k zero-le l q) (λ l. absurd (omega arith)) in
     rw (← n, le-ltb i (length t) h) refl
 
 module _ (s : List ℕ) (at : ℕ) where
-  pub first-is : {r : ℕ} → Free (byte_of s) at r → (r < length s → byte_of s r ≡ 0) → r ≡ at + before_zero (drop at s)
-  first-is {r} x ends =
-      let back : at + (r - at) ≡ r = omega (arith, x.rises) in
-      let counted = bytes_counted (drop at s) (r - at)
-      (λ k h z. x.free (at + k) (omega arith) (omega arith) (sym (get_or-drop at s k 0) ∙ z))
-      (λ h. get_or-drop at s (r - at) 0 ∙ rw back (ends (omega (arith, length-drop at s)))) in
-      omega (arith, counted, x.rises)
-
   -- what is behind `at`, as a slice of its own
   abbrev behind : List ℕ
   behind = take (length s - at) (drop at s)
@@ -68,21 +61,21 @@ module _ (s : List ℕ) (at : ℕ) where
       let x : First (byte_of (drop at s)) 0 (length (drop at s)) r = rw (take_all (length s - at) (drop at s) (omega (arith, length-drop at s))) at first in
       bytes_counted (drop at s) r (λ k h z. x.passed.free k zero-le h z) x.ends
 
-  pub none-behind : length s ≤ at → none ≡ bytes_to_zero (drop at s)
+  pub none-behind : length s ≤ at → None ≡ bytes_to_zero (drop at s)
   unfolding before_zero
   none-behind h = rw (drop_of_length-le s h) refl
 
-  pub found-behind : {n r : ℕ} → First (byte_of behind) 0 (length behind) n → r ≡ or_none (ltb n (length behind)) n → r ≡ bytes_to_zero (drop at s)
+  pub found-behind : {n : ℕ} {r : Option ℕ} → First (byte_of behind) 0 (length behind) n → r ≡ only_if (ltb n (length behind)) n → r ≡ bytes_to_zero (drop at s)
   found-behind {n} f e =
       let all : behind ≡ drop at s = take_all (length s - at) (drop at s) (omega (arith, length-drop at s)) in
       e ∙ rw (all, counted-behind f) refl
 
-  pub few-behind : {r : ℕ} → r ≡ bytes_to_zero behind → r ≡ bytes_to_zero (drop at s)
+  pub few-behind : {r : Option ℕ} → r ≡ bytes_to_zero behind → r ≡ bytes_to_zero (drop at s)
   few-behind e =
       let all : behind ≡ drop at s = take_all (length s - at) (drop at s) (omega (arith, length-drop at s)) in
       e ∙ rw all refl
 
-  pub near-behind : {n : ℕ} → First (byte_of behind) 0 (length behind) n → n < length behind → n ≡ bytes_to_zero (drop at s)
+  pub near-behind : {n : ℕ} → First (byte_of behind) 0 (length behind) n → n < length behind → Some n ≡ bytes_to_zero (drop at s)
   near-behind {n} f h = found-behind f (rw (lt-ltb n (length behind) h) refl)
 
   dropped : (k : ℕ) → unit_of (drop at s) 0 k ≡ unit_of s at k
@@ -108,14 +101,14 @@ half n l = by (ltb n (l / 2)) refl
     by false e = sym (le-ltb (2 * n + 1) l (omega (arith, ltb-false n (l / 2) e)))
 
 module _ (s : List ℕ) (at : ℕ) where
-  pub units-none : length s < at → none ≡ units_to_zero (drop at s)
+  pub units-none : length s < at → None ≡ units_to_zero (drop at s)
   unfolding units_before_zero
   units-none h = let past : length s ≤ at = omega arith in rw (drop_of_length-le s past) refl
 
-  pub units-found : {n r : ℕ} → n ≡ units_before_zero (drop at s) → r ≡ or_none (ltb n ((length s - at) / 2)) n → r ≡ units_to_zero (drop at s)
+  pub units-found : {n : ℕ} {r : Option ℕ} → n ≡ units_before_zero (drop at s) → r ≡ only_if (ltb n ((length s - at) / 2)) n → r ≡ units_to_zero (drop at s)
   units-found {n} e f = f ∙ rw (half n (length s - at), ← length-drop at s, e) refl
 
-  pub units-near : {n : ℕ} → n ≡ units_before_zero (drop at s) → n < (length s - at) / 2 → n ≡ units_to_zero (drop at s)
+  pub units-near : {n : ℕ} → n ≡ units_before_zero (drop at s) → n < (length s - at) / 2 → Some n ≡ units_to_zero (drop at s)
   units-near {n} e h = units-found e (rw (lt-ltb n ((length s - at) / 2) h) refl)
 
 -- no more stands before the zero than is there
@@ -125,13 +118,4 @@ before-within [] = zero-le
 before-within (b ∷ t) = by (eqb b 0) (before-within t) where
   by : (z : Bool) → before_zero t ≤ length t → unless z (suc (before_zero t)) ≤ suc (length t)
   by true h = zero-le
-  by false h = omega arith
-
-pub units-within : (t : List ℕ) → 2 * units_before_zero t ≤ length t
-unfolding units_before_zero
-units-within [] = omega arith
-units-within (b ∷ []) = omega arith
-units-within (b ∷ c ∷ t) = by (eqb (b + 256 * c) 0) (units-within t) where
-  by : (z : Bool) → 2 * units_before_zero t ≤ length t → 2 * unless z (suc (units_before_zero t)) ≤ suc (suc (length t))
-  by true h = omega arith
   by false h = omega arith

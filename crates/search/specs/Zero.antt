@@ -1,5 +1,5 @@
 -- How much stands before the zero that ends a string.
-use Rattle.std.specs.Prelude.{ℕ, suc, ◌+◌, ◌*◌, Bool, true, false, List, [], ◌∷◌, length, eqb, ltb}
+use Rattle.std.specs.Prelude.{ℕ, suc, ◌+◌, ◌*◌, Bool, true, false, List, [], ◌∷◌, length, eqb, ltb, Option, Some, None}
 
 abbrev pub unless : Bool → ℕ → ℕ
 unless true n = 0
@@ -16,19 +16,15 @@ units_before_zero [] = 0
 units_before_zero (b ∷ []) = 0
 units_before_zero (b ∷ c ∷ s) = unless (eqb (b + 256 * c) 0) (suc (units_before_zero s))
 
--- the count where there is no zero, the largest of a usize: above every other, since a count is below the length of its slice
-abbrev pub none : ℕ
-none = 18446744073709551615
+-- a count where the test holds
+abbrev pub only_if : Bool → ℕ → Option ℕ
+only_if true n = Some n
+only_if false n = None
 
--- a count, or none
-abbrev pub or_none : Bool → ℕ → ℕ
-or_none true n = n
-or_none false n = none
+-- the bytes before the first zero byte, where there is one
+abbrev pub bytes_to_zero : List ℕ → Option ℕ
+bytes_to_zero s = only_if (ltb (before_zero s) (length s)) (before_zero s)
 
--- the bytes before the first zero byte, or none where there is no zero byte
-abbrev pub bytes_to_zero : List ℕ → ℕ
-bytes_to_zero s = or_none (ltb (before_zero s) (length s)) (before_zero s)
-
--- the units before the first zero unit, or none where there is no zero unit
-abbrev pub units_to_zero : List ℕ → ℕ
-units_to_zero s = or_none (ltb (2 * units_before_zero s + 1) (length s)) (units_before_zero s)
+-- the units before the first zero unit, where there is one
+abbrev pub units_to_zero : List ℕ → Option ℕ
+units_to_zero s = only_if (ltb (2 * units_before_zero s + 1) (length s)) (units_before_zero s)

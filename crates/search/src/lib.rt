@@ -1,41 +1,26 @@
-// Where a string ends: its zero byte, or its zero 16-bit unit, found by blocks. A block is folded without a way out, so that the compiler takes
-// many bytes at a time; a hit in a block claims nothing, the bytes are then looked at one by one.
+// Where a string ends: its zero byte, or its zero 16-bit unit, found by blocks. A block is folded without a way out, so that the compiler
+// takes many bytes at a time; a hit in a block claims nothing, the bytes are then looked at one by one.
 #![tactic(auto)]
 
-ghost use Rattle.std.specs.Prelude.{◌+◌, ◌*◌, ◌<◌, ◌≤◌, min, ◌≡◌, length, drop, ltb};
-ghost use Rattle.search.specs.Zero.{or_none, before_zero, bytes_to_zero, units_to_zero};
+ghost use Rattle.std.specs.Prelude.{◌+◌, ◌*◌, ◌<◌, ◌≤◌, ◌≡◌, false, length, drop, ltb};
+ghost use Rattle.search.specs.Zero.{only_if, bytes_to_zero, units_to_zero};
 ghost use Rattle.search.specs.Free.{byte_of, unit_of, Rows, Free, First};
 
-fn smaller(a: usize, b: usize) -> usize
-    ensures { result ≡ min a b }
+// A place, if it is before `stop`.
+fn place_before(n: usize, stop: usize) -> Option<usize>
+    ensures { result ≡ only_if (ltb n stop) n }
 {
-    if a < b { a } else { b }
-}
-
-// The answer where there is no zero: above every count, since a count is below the length of its slice.
-pub const NONE: usize = usize::MAX;
-
-// A place before `stop`, or none.
-fn or_none(n: usize, stop: usize) -> usize
-    ensures { result ≡ or_none (ltb n stop) n }
-{
-    if n < stop { n } else { NONE }
+    if n < stop { Some(n) } else { None }
 }
 
 // ---- bytes
-
-fn least(a: u8, b: u8) -> u8
-    ensures { (result ≤ a) × (result ≤ b) }
-{
-    if b < a { b } else { a }
-}
 
 // The least of the bytes at k and k + 16.
 fn least_of_2(s: &[u8], k: usize) -> u8
     requires { k + 16 < length s.now }
     ensures { (result ≡ 0 → ⊥) → Rows (byte_of s.now) k 2 }
 {
-    least(s[k], s[k + 16])
+    s[k].min(s[k + 16])
 }
 
 // The least of the four bytes at k, k + 16, k + 32, k + 48, and so on below.
@@ -43,51 +28,47 @@ fn least_of_4(s: &[u8], k: usize) -> u8
     requires { k + 48 < length s.now }
     ensures { (result ≡ 0 → ⊥) → Rows (byte_of s.now) k 4 }
 {
-    least(least_of_2(s, k), least_of_2(s, k + 32))
+    least_of_2(s, k).min(least_of_2(s, k + 32))
 }
 
 fn least_of_8(s: &[u8], k: usize) -> u8
     requires { k + 112 < length s.now }
     ensures { (result ≡ 0 → ⊥) → Rows (byte_of s.now) k 8 }
 {
-    least(least_of_4(s, k), least_of_4(s, k + 64))
+    least_of_4(s, k).min(least_of_4(s, k + 64))
 }
 
 fn least_of_16(s: &[u8], k: usize) -> u8
     requires { k + 240 < length s.now }
     ensures { (result ≡ 0 → ⊥) → Rows (byte_of s.now) k 16 }
 {
-    least(least_of_8(s, k), least_of_8(s, k + 128))
+    least_of_8(s, k).min(least_of_8(s, k + 128))
 }
 
-// 0 only if none of the 256 bytes from i on is zero.
-fn zero_in_256(s: &[u8], i: usize) -> u8
+// False only if none of the 256 bytes from i on is zero.
+fn zero_in_256(s: &[u8], i: usize) -> bool
     requires { i + 256 ≤ length s.now }
-    ensures { result ≡ 0 → Free (byte_of s.now) i (i + 256) }
+    ensures { result ≡ false → Free (byte_of s.now) i (i + 256) }
 {
-    let mut hit: u8 = 0;
-    let mut j = 0;
-    while j < 16 {
+    let mut hit = false;
+    for j in 0..16 {
         if least_of_16(s, i + j) == 0 {
-            hit = 1;
+            hit = true;
         }
-        j += 1;
     }
     hit
 }
 
 // The same of 16 bytes.
-fn zero_in_16(s: &[u8], i: usize) -> u8
+fn zero_in_16(s: &[u8], i: usize) -> bool
     requires { i + 16 ≤ length s.now }
-    ensures { result ≡ 0 → Free (byte_of s.now) i (i + 16) }
+    ensures { result ≡ false → Free (byte_of s.now) i (i + 16) }
 {
-    let mut hit: u8 = 0;
-    let mut j = 0;
-    while j < 16 {
+    let mut hit = false;
+    for j in 0..16 {
         if s[i + j] == 0 {
-            hit = 1;
+            hit = true;
         }
-        j += 1;
     }
     hit
 }
@@ -100,7 +81,7 @@ fn pass_256(s: &[u8], from: usize) -> usize
 {
     let mut i = from;
     while 256 <= s.len() - i {
-        if zero_in_256(s, i) != 0 {
+        if zero_in_256(s, i) {
             return i;
         }
         i += 256;
@@ -116,7 +97,7 @@ fn pass_16(s: &[u8], from: usize) -> usize
 {
     let mut i = from;
     while 16 <= s.len() - i {
-        if zero_in_16(s, i) != 0 {
+        if zero_in_16(s, i) {
             return i;
         }
         i += 16;
@@ -125,32 +106,29 @@ fn pass_16(s: &[u8], from: usize) -> usize
 }
 
 // The first zero of the eight bytes from i on, or i + 8.
+#[inline(always)]
 fn first_of_8(s: &[u8], i: usize) -> usize
     requires { i + 8 ≤ length s.now }
     ensures { First (byte_of s.now) i (i + 8) result }
 {
-    let mut j = 0;
-    while j < 8 {
+    for j in 0..8 {
         if s[i + j] == 0 {
             return i + j;
         }
-        j += 1;
     }
     i + 8
 }
 
-// The first zero of a few bytes, or NONE. A place found is answered where it is found: the compiler then knows that it is small.
-fn first_of_few(s: &[u8]) -> usize
+// The first zero of a few bytes. A place found is answered where it is found: the compiler then knows that it is small.
+fn first_of_few(s: &[u8]) -> Option<usize>
     ensures { result ≡ bytes_to_zero s.now }
 {
-    let mut i = 0;
-    while i < s.len() {
+    for i in 0..s.len() {
         if s[i] == 0 {
-            return i;
+            return Some(i);
         }
-        i += 1;
     }
-    NONE
+    None
 }
 
 // The first zero of the bytes from `from` up to `stop`, or `stop`.
@@ -158,14 +136,12 @@ fn first_one_by_one(s: &[u8], from: usize, stop: usize) -> usize
     requires { (from ≤ stop) × (stop ≤ length s.now) }
     ensures { First (byte_of s.now) from stop result }
 {
-    let mut i = from;
-    while i < stop {
+    for i in from..stop {
         if s[i] == 0 {
             return i;
         }
-        i += 1;
     }
-    i
+    stop
 }
 
 // The same by eights.
@@ -192,7 +168,7 @@ fn first_by_blocks(s: &[u8], from: usize) -> usize
     if s.len() - from < 8 {
         return first_one_by_one(s, from, s.len());
     }
-    let stop = smaller(from + 32 - from % 16, s.len());
+    let stop = (from + 32 - from % 16).min(s.len());
     let r = first_by_eights(s, from, stop);
     if r < stop {
         return r;
@@ -202,23 +178,14 @@ fn first_by_blocks(s: &[u8], from: usize) -> usize
     first_one_by_one(s, i, s.len())
 }
 
-// The index of the first zero byte at or behind `at`; without one the length, or `at` where that is past the end.
-pub fn first_zero(s: &[u8], at: usize) -> usize
-    ensures { result ≡ at + before_zero (drop at s.now) }
-{
-    if s.len() <= at {
-        return at;
-    }
-    first_by_blocks(s, at)
-}
-
-// The bytes before the first zero byte at or behind `at`, or NONE. For names: the first eight bytes are looked at by code so short that the
-// compiler puts it into each reader.
-pub fn bytes_before_zero(s: &[u8], at: usize) -> usize
+// The bytes before the first zero byte at or behind `at`. For names: the first eight bytes are looked at by code so short that it stands in
+// each reader.
+#[inline(always)]
+pub fn bytes_before_zero(s: &[u8], at: usize) -> Option<usize>
     ensures { result ≡ bytes_to_zero (drop at s.now) }
 {
     if s.len() <= at {
-        return NONE;
+        return None;
     }
     let near = &s[at..];
     if near.len() < 8 {
@@ -226,41 +193,33 @@ pub fn bytes_before_zero(s: &[u8], at: usize) -> usize
     }
     let n = first_of_8(near, 0);
     if n < 8 {
-        return n;
+        return Some(n);
     }
     // the blocks get a slice of their own: so `near` stays in registers, and short names pay for no frame
     let rest = &s[at..];
-    or_none(first_by_blocks(rest, 8), near.len())
+    place_before(first_by_blocks(rest, 8), near.len())
 }
 
 // ---- units; `at` is where the first one starts
-
-fn unit(low: u8, high: u8) -> u16
-    ensures { result ≡ low + 256 * high }
-{
-    (low as u16) + 256 * (high as u16)
-}
 
 fn unit_at(s: &[u8], at: usize, n: usize) -> u16
     requires { at + 2 * n + 1 < length s.now }
     ensures { result ≡ unit_of s.now at n }
 {
     let k = at + 2 * n;
-    unit(s[k], s[k + 1])
+    u16::from_le_bytes([s[k], s[k + 1]])
 }
 
-// 0 only if none of `count` units from the n-th on is zero.
-fn zero_in_units(s: &[u8], at: usize, n: usize, count: usize) -> u8
+// False only if none of `count` units from the n-th on is zero.
+fn zero_in_units(s: &[u8], at: usize, n: usize, count: usize) -> bool
     requires { at + 2 * n + 2 * count ≤ length s.now }
-    ensures { result ≡ 0 → Free (unit_of s.now at) n (n + count) }
+    ensures { result ≡ false → Free (unit_of s.now at) n (n + count) }
 {
-    let mut hit: u8 = 0;
-    let mut j = 0;
-    while j < count {
+    let mut hit = false;
+    for j in 0..count {
         if unit_at(s, at, n + j) == 0 {
-            hit = 1;
+            hit = true;
         }
-        j += 1;
     }
     hit
 }
@@ -273,7 +232,7 @@ fn pass_units(s: &[u8], at: usize, from: usize, count: usize) -> usize
 {
     let mut n = from;
     while 2 * count <= s.len() - (at + 2 * n) {
-        if zero_in_units(s, at, n, count) != 0 {
+        if zero_in_units(s, at, n, count) {
             return n;
         }
         n += count;
@@ -286,14 +245,12 @@ fn first_unit_one_by_one(s: &[u8], at: usize, from: usize, stop: usize) -> usize
     requires { (from ≤ stop) × (at + 2 * stop ≤ length s.now) }
     ensures { First (unit_of s.now at) from stop result }
 {
-    let mut n = from;
-    while n < stop {
+    for n in from..stop {
         if unit_at(s, at, n) == 0 {
             return n;
         }
-        n += 1;
     }
-    n
+    stop
 }
 
 // The first zero of the 24 units from `at` on, or 24.
@@ -301,12 +258,10 @@ fn first_of_24_units(s: &[u8], at: usize) -> usize
     requires { at + 48 ≤ length s.now }
     ensures { First (unit_of s.now at) 0 24 result }
 {
-    let mut j = 0;
-    while j < 24 {
+    for j in 0..24 {
         if unit_at(s, at, j) == 0 {
             return j;
         }
-        j += 1;
     }
     24
 }
@@ -321,20 +276,20 @@ fn first_unit_by_blocks(s: &[u8], at: usize, count: usize) -> usize
     first_unit_one_by_one(s, at, n, count)
 }
 
-// The units from `at` on before the first zero unit, or NONE; a lone last byte is no unit.
-pub fn units_before_zero(s: &[u8], at: usize) -> usize
+// The units from `at` on before the first zero unit; a lone last byte is no unit.
+pub fn units_before_zero(s: &[u8], at: usize) -> Option<usize>
     ensures { result ≡ units_to_zero (drop at s.now) }
 {
     if s.len() < at {
-        return NONE;
+        return None;
     }
     let count = (s.len() - at) / 2;
     if count < 24 {
-        return or_none(first_unit_one_by_one(s, at, 0, count), count);
+        return place_before(first_unit_one_by_one(s, at, 0, count), count);
     }
     let r = first_of_24_units(s, at);
     if r < 24 {
-        return r;
+        return Some(r);
     }
-    or_none(first_unit_by_blocks(s, at, count), count)
+    place_before(first_unit_by_blocks(s, at, count), count)
 }

@@ -71,7 +71,7 @@ ReadsPacket = (s : List ℕ) (m : Message) → Accepted s m
 abbrev pub ReadsWritten : Type 0
 ReadsWritten = ReadsBody × ReadsPacket
 
--- writes-body (Bodies): what was read of a body is valid, and is written as the bytes that were taken
+-- writes_body (Bodies): what was read of a body is valid, and is written as the bytes that were taken
 abbrev pub WritesBody : Type 0
 WritesBody = (k : Kind) (s : List ℕ) (v : Value (body_of k)) (rest : List ℕ) → Bytes s → decode (body_of k) s ≡ got v rest
     → Valid (body_of k) v × (s ≡ encode (body_of k) v ++ rest)

@@ -1,5 +1,5 @@
 -- Laws of digits and of escaped bytes and units.
-use Prim.Native.Nat.{ℕ, zero, suc, ◌+◌, ◌/◌, ◌%◌, ◌^◌, ◌≤◌, ◌<◌}
+use Prim.Native.Nat.{ℕ, zero, suc, ◌+◌, ◌-◌, ◌/◌, ◌%◌, ◌^◌, ◌≤◌, ◌<◌}
 use mathlib.Core.Path.{◌≡◌, refl, sym, ap, ◌∙◌}
 use mathlib.Core.Bool.{Bool, true, false, ◌||◌, true≢false}
 use mathlib.Core.List.{List, [], ◌∷◌, ◌++◌}
@@ -14,9 +14,9 @@ pub digit_low : (d : ℕ) → d < 10 → 48 + d ≡ digit d
 unfolding digit
 digit_low d h = rw (lt-ltb d 10 h) refl
 
-pub digit-high : (d : ℕ) → 10 ≤ d → 55 + d ≡ digit d
+pub digit-high : (d : ℕ) → 10 ≤ d → 65 + (d - 10) ≡ digit d
 unfolding digit
-digit-high d h = rw (le-ltb d 10 h) refl
+digit-high d h = rw (le-ltb d 10 h) (omega arith)
 
 -- two digits, then four, then eight
 pub hex-2 : {a b : ℕ} (n : ℕ) → a ≡ digit (n / 16 % 16) → b ≡ digit (n % 16) → a ∷ b ∷ [] ≡ hex 2 n

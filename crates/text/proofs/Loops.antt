@@ -1,5 +1,5 @@
 -- Texts of many items, written one behind the other by a loop.
-use Prim.Native.Nat.{ℕ, zero, suc, ◌+◌, ◌-◌, ◌*◌, ◌≤◌, ◌<◌}
+use Prim.Native.Nat.{ℕ, zero, suc, ◌+◌, ◌-◌, ◌*◌, ◌/◌, ◌≤◌, ◌<◌, min}
 use mathlib.Core.Path.{◌≡◌, refl, ap, ◌∙◌}
 use mathlib.Core.List.{List, [], ◌∷◌, ◌++◌}
 use native.Mathlib.Numerals.{add-one}
@@ -51,40 +51,33 @@ each_all {k = k} {s = s} {i = i} h a = onto-all (ap (concat_map k) (drop_of_leng
 pub each-length : {from : ℕ} {k : ℕ → List ℕ} {s o o₀ : List ℕ} {i p q : ℕ} → Each from k s i q o p o₀ → length o ≡ length o₀
 each-length a = a.onto.length-of
 
--- an element as it is
-abbrev pub one : ℕ → List ℕ
-one b = b ∷ []
-
-ones : (s : List ℕ) → concat_map one s ≡ s
+-- each element as it is
+pub ones : (s : List ℕ) → concat_map (λ b. b ∷ []) s ≡ s
 unfolding concat_map
 ones [] = refl
 ones (b ∷ s) = ap (λ (l : List ℕ). b ∷ l) (ones s)
 
-pub ones-all : {from : ℕ} {s o o₀ : List ℕ} {i p q : ℕ} → length s ≤ i → Each from one s i q o p o₀ → Prints from s p o₀ q o
-ones-all {s = s} h a = rw (ones s) at (each_all h a)
-
 -- ---- the units of a slice
 
--- those before i, left of them being left
-pub record Units (from : ℕ) (s : List ℕ) (n i left q : ℕ) (o : List ℕ) (p : ℕ) (o₀ : List ℕ) : Type 0 where
-  pub within : i ≤ length s
-  pub onto : Onto from (concat_map escape (units_of left (drop i s))) q o (concat_map escape (units_of n s)) p o₀
+-- those before i are written
+pub record Units (from : ℕ) (s : List ℕ) (n i q : ℕ) (o : List ℕ) (p : ℕ) (o₀ : List ℕ) : Type 0 where
+  pub within : 2 * i ≤ length s
+  pub onto : Onto from (concat_map escape (units_of (n - i) (drop (2 * i) s))) q o (concat_map escape (units_of n s)) p o₀
 
-pub units-none : {from : ℕ} {s o : List ℕ} {n p : ℕ} → Units from s n 0 n p o p o
-units-none = record { within = omega arith; onto = onto-none }
+pub units-none : {from : ℕ} {s o : List ℕ} {n p : ℕ} → Units from s n 0 p o p o
+units-none {n = n} = let e : n - 0 ≡ n = omega arith in record { within = omega arith; onto = rw e onto-none }
 
-one_more : (s : List ℕ) (i left : ℕ) → i + 1 < length s → 0 < left
-    → concat_map escape (units_of left (drop i s)) ≡ escape (get_or s i 0 + 256 * get_or s (i + 1) 0) ++ concat_map escape (units_of (left - 1) (drop (i + 2) s))
+one_more : (s : List ℕ) (n i : ℕ) → 2 * i + 1 < length s → i < n → concat_map escape (units_of (n - i) (drop (2 * i) s))
+    ≡ escape (get_or s (2 * i) 0 + 256 * get_or s (2 * i + 1) 0) ++ concat_map escape (units_of (n - (i + 1)) (drop (2 * (i + 1)) s))
 unfolding units_of concat_map
-one_more s i zero h g = absurd (omega arith)
-one_more s i (suc left) h g =
-    let e : suc left - 1 ≡ left = omega arith in
-    let f : i + 2 ≡ suc (suc i) = omega arith in
-    rw (e, f, drop-cons s i 0 (omega arith), drop-cons s (suc i) 0 (omega arith), ← add-one i) refl
+one_more s n i h g =
+    let e : n - i ≡ suc (n - (i + 1)) = omega arith in
+    let f : 2 * (i + 1) ≡ suc (suc (2 * i)) = omega arith in
+    rw (e, f, drop-cons s (2 * i) 0 (omega arith), drop-cons s (suc (2 * i)) 0 (omega arith), ← add-one (2 * i)) refl
 
-pub units-more : {from : ℕ} {s o o' o₀ : List ℕ} {n i left p q q' : ℕ} → 0 < left → 2 ≤ length s - i → Units from s n i left q o p o₀
-    → Prints from (escape (get_or s i 0 + 256 * get_or s (i + 1) 0)) q o q' o' → Units from s n (i + 2) (left - 1) q' o' p o₀
-units-more {s = s} {i = i} {left = left} g h a b = record { within = omega arith; onto = onto-more (one_more s i left (omega arith) g) a.onto b }
+pub units-more : {from : ℕ} {s o o' o₀ : List ℕ} {n i p q q' : ℕ} → i < n → 2 * i + 1 < length s → Units from s n i q o p o₀
+    → Prints from (escape (get_or s (2 * i) 0 + 256 * get_or s (2 * i + 1) 0)) q o q' o' → Units from s n (i + 1) q' o' p o₀
+units-more {s = s} {n = n} {i = i} g h a b = record { within = omega arith; onto = onto-more (one_more s n i h g) a.onto b }
 
 units-of-none : (s : List ℕ) (left : ℕ) → length s < 2 → units_of left s ≡ []
 unfolding units_of
@@ -93,16 +86,19 @@ units-of-none [] (suc left) h = refl
 units-of-none (b ∷ []) (suc left) h = refl
 units-of-none (b ∷ c ∷ s) (suc left) h = absurd (omega arith)
 
-pub units-short : {from : ℕ} {s o o₀ : List ℕ} {n i left p q : ℕ} → length s - i < 2 → Units from s n i left q o p o₀ → Prints from (concat_map escape (units_of n s)) p o₀ q o
+none-left : (s : List ℕ) (n i : ℕ) → min n (length s / 2) ≤ i → units_of (n - i) (drop (2 * i) s) ≡ []
+unfolding units_of
+none-left s n i h = by (n - i) refl where
+  by : (left : ℕ) → n - i ≡ left → units_of left (drop (2 * i) s) ≡ []
+  by zero e = refl
+  by (suc left) e = units-of-none (drop (2 * i) s) (suc left) (simp length-drop (omega arith))
+
+pub units-all : {from : ℕ} {s o o₀ : List ℕ} {n i p q : ℕ} → min n (length s / 2) ≤ i → Units from s n i q o p o₀
+    → Prints from (concat_map escape (units_of n s)) p o₀ q o
 unfolding concat_map
-units-short {s = s} {i = i} {left = left} h a = onto-all (ap (concat_map escape) (units-of-none (drop i s) left (simp length-drop (omega arith)))) a.onto
+units-all {s = s} {n = n} {i = i} h a = onto-all (ap (concat_map escape) (none-left s n i h)) a.onto
 
-pub units-all : {from : ℕ} {s o o₀ : List ℕ} {n i left p q : ℕ} → left ≤ 0 → Units from s n i left q o p o₀ → Prints from (concat_map escape (units_of n s)) p o₀ q o
-unfolding concat_map units_of
-units-all {s = s} {i = i} {left = zero} h a = onto-all refl a.onto
-units-all {s = s} {i = i} {left = suc left} h a = absurd (omega arith)
-
-pub units-length : {from : ℕ} {s o o₀ : List ℕ} {n i left p q : ℕ} → Units from s n i left q o p o₀ → length o ≡ length o₀
+pub units-length : {from : ℕ} {s o o₀ : List ℕ} {n i p q : ℕ} → Units from s n i q o p o₀ → length o ≡ length o₀
 units-length a = a.onto.length-of
 
-pub ruleset needs = (kit.rules, each_none, each_more, each_all, each-length, ones-all, units-none, units-more, units-short, units-all, units-length)
+pub ruleset needs = (kit.rules, each_none, each_more, each_all, each-length, units-none, units-more, units-all, units-length)

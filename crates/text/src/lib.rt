@@ -2,12 +2,11 @@
 // each function answers the place behind its text, or the output's end.
 #![tactic(auto)]
 
-ghost use Rattle.std.specs.Prelude.{◌≡◌, [], ◌∷◌, ◌+◌, ◌*◌, ◌/◌, ◌%◌};
+ghost use Rattle.std.specs.Prelude.{◌≡◌, ℕ, List, [], ◌∷◌, ◌%◌};
+ghost use Rattle.format.specs.Format.{concat_map};
 ghost use Rattle.format.specs.View.{units_of};
 ghost use Rattle.text.specs.Prints.{Prints};
 ghost use Rattle.text.specs.Text.{digit as digit_of, hex, decimal, coded, is_coded, escape, escaped, hex_block, keyed, line};
-
-use put::either;
 
 fn put_char(out: &mut [u8], from: u32, at: usize, c: u8) -> usize
     ensures { Prints from (c ∷ []) at out.old result out.new }
@@ -31,7 +30,7 @@ fn digit(n: usize) -> u8
     ensures { result ≡ digit_of (n % 16) }
 {
     let d = (n % 16) as u8;
-    if d < 10 { 48 + d } else { 55 + d }
+    if d < 10 { b'0' + d } else { b'A' + (d - 10) }
 }
 
 // The last two hexadecimal digits of n; then four, then eight.
@@ -60,10 +59,10 @@ pub fn put_decimal(out: &mut [u8], from: u32, at: usize, n: usize) -> usize
     ensures { Prints from (decimal n) at out.old result out.new }
 {
     if n < 10 {
-        return put_char(out, from, at, 48 + n as u8);
+        return put_char(out, from, at, b'0' + n as u8);
     }
     let at = put_decimal(out, from, at, n / 10);
-    put_char(out, from, at, 48 + (n % 10) as u8)
+    put_char(out, from, at, b'0' + (n % 10) as u8)
 }
 
 // ---- strings
@@ -71,14 +70,14 @@ pub fn put_decimal(out: &mut [u8], from: u32, at: usize, n: usize) -> usize
 fn put_coded(out: &mut [u8], from: u32, at: usize, unit: u16) -> usize
     ensures { Prints from (coded unit) at out.old result out.new }
 {
-    let at = put_char(out, from, at, 92);
-    put_hex_4(out, from, at, unit as usize)
+    let at = put_char(out, from, at, b'\\');
+    put_hex_4(out, from, at, usize::from(unit))
 }
 
 fn is_coded(unit: u16) -> bool
     ensures { result ≡ is_coded unit }
 {
-    either(unit < 32, either(126 < unit, unit == 92))
+    unit < 32 || 126 < unit || unit == 92
 }
 
 // A byte or unit.
@@ -91,49 +90,75 @@ pub fn put_escape(out: &mut [u8], from: u32, at: usize, unit: u16) -> usize
     put_char(out, from, at, unit as u8)
 }
 
-fn put_escape_byte(out: &mut [u8], from: u32, at: usize, byte: u8) -> usize
-    ensures { Prints from (escape byte) at out.old result out.new }
-{
-    put_escape(out, from, at, byte as u16)
+// ---- bytes one behind the other
+
+// How a byte of many is printed.
+pub trait ByteText: Copy {
+    ghost text: { Self → ℕ → List ℕ };
+
+    fn put(self, out: &mut [u8], from: u32, at: usize, byte: u8) -> usize
+        ensures { Prints from (text self byte) at out.old result out.new };
 }
 
-fn put_hex_byte(out: &mut [u8], from: u32, at: usize, byte: u8) -> usize
-    ensures { Prints from (hex 2 byte) at out.old result out.new }
-{
-    put_hex_2(out, from, at, byte as usize)
+// As it is.
+#[derive(Clone, Copy)]
+struct Plain;
+
+impl ByteText for Plain {
+    ghost text = { λ _ byte. byte ∷ [] };
+
+    fn put(self, out: &mut [u8], from: u32, at: usize, byte: u8) -> usize {
+        put_char(out, from, at, byte)
+    }
 }
 
-// Two bytes as a unit, the low one first.
-fn put_escape_unit(out: &mut [u8], from: u32, at: usize, low: u8, high: u8) -> usize
-    ensures { Prints from (escape (low + 256 * high)) at out.old result out.new }
+// As a character of a string.
+#[derive(Clone, Copy)]
+struct Escaped;
+
+impl ByteText for Escaped {
+    ghost text = { λ _ byte. escape byte };
+
+    fn put(self, out: &mut [u8], from: u32, at: usize, byte: u8) -> usize {
+        put_escape(out, from, at, u16::from(byte))
+    }
+}
+
+// As two digits.
+#[derive(Clone, Copy)]
+struct HexPair;
+
+impl ByteText for HexPair {
+    ghost text = { λ _ byte. hex 2 byte };
+
+    fn put(self, out: &mut [u8], from: u32, at: usize, byte: u8) -> usize {
+        put_hex_2(out, from, at, usize::from(byte))
+    }
+}
+
+// Bytes, one behind the other.
+pub fn put_each<P: ByteText>(out: &mut [u8], from: u32, at: usize, s: &[u8], p: P) -> usize
+    ensures { Prints from (concat_map (P.text p) s.now) at out.old result out.new }
 {
-    put_escape(out, from, at, (low as u16) + 256 * (high as u16))
+    let mut next = at;
+    for byte in s {
+        next = p.put(out, from, next, *byte);
+    }
+    next
 }
 
 // Characters as they are.
 pub fn put_chars(out: &mut [u8], from: u32, at: usize, s: &[u8]) -> usize
     ensures { Prints from s.now at out.old result out.new }
 {
-    let mut next = at;
-    let mut i = 0;
-    while i < s.len() {
-        next = put_char(out, from, next, s[i]);
-        i += 1;
-    }
-    next
+    put_each(out, from, at, s, Plain)
 }
 
 // A string of bytes.
 pub fn put_escaped(out: &mut [u8], from: u32, at: usize, s: &[u8]) -> usize
     ensures { Prints from (escaped s.now) at out.old result out.new }
 {
-    let mut next = at;
-    let mut i = 0;
-    while i < s.len() {
-        next = put_escape_byte(out, from, next, s[i]);
-        i += 1;
-    }
-    next
+    put_each(out, from, at, s, Escaped)
 }
 
 // A string of the first n units of s, as far as s reaches.
@@ -141,15 +166,9 @@ pub fn put_escaped_units(out: &mut [u8], from: u32, at: usize, s: &[u8], n: usiz
     ensures { Prints from (escaped (units_of n s.now)) at out.old result out.new }
 {
     let mut next = at;
-    let mut i = 0;
-    let mut left = n;
-    while 0 < left {
-        if s.len() - i < 2 {
-            return next;
-        }
-        next = put_escape_unit(out, from, next, s[i], s[i + 1]);
-        i += 2;
-        left -= 1;
+    for i in 0..n.min(s.len() / 2) {
+        let unit = u16::from_le_bytes([s[2 * i], s[2 * i + 1]]);
+        next = put_escape(out, from, next, unit);
     }
     next
 }
@@ -158,13 +177,7 @@ pub fn put_escaped_units(out: &mut [u8], from: u32, at: usize, s: &[u8], n: usiz
 pub fn put_hex_block(out: &mut [u8], from: u32, at: usize, s: &[u8]) -> usize
     ensures { Prints from (hex_block s.now) at out.old result out.new }
 {
-    let mut next = at;
-    let mut i = 0;
-    while i < s.len() {
-        next = put_hex_byte(out, from, next, s[i]);
-        i += 1;
-    }
-    next
+    put_each(out, from, at, s, HexPair)
 }
 
 // ---- lines
@@ -174,7 +187,7 @@ fn put_key(out: &mut [u8], from: u32, at: usize, key: &[u8]) -> usize
     ensures { Prints from (keyed key.now) at out.old result out.new }
 {
     let at = put_chars(out, from, at, key);
-    put_char(out, from, at, 61)
+    put_char(out, from, at, b'=')
 }
 
 pub fn put_decimal_line(out: &mut [u8], from: u32, at: usize, key: &[u8], n: usize) -> usize
@@ -182,7 +195,7 @@ pub fn put_decimal_line(out: &mut [u8], from: u32, at: usize, key: &[u8], n: usi
 {
     let at = put_key(out, from, at, key);
     let at = put_decimal(out, from, at, n);
-    put_char(out, from, at, 10)
+    put_char(out, from, at, b'\n')
 }
 
 // Eight hexadecimal digits.
@@ -191,7 +204,7 @@ pub fn put_hex_line(out: &mut [u8], from: u32, at: usize, key: &[u8], n: usize) 
 {
     let at = put_key(out, from, at, key);
     let at = put_hex_8(out, from, at, n);
-    put_char(out, from, at, 10)
+    put_char(out, from, at, b'\n')
 }
 
 // Characters as they are.
@@ -200,7 +213,7 @@ pub fn put_chars_line(out: &mut [u8], from: u32, at: usize, key: &[u8], value: &
 {
     let at = put_key(out, from, at, key);
     let at = put_chars(out, from, at, value);
-    put_char(out, from, at, 10)
+    put_char(out, from, at, b'\n')
 }
 
 // A string of bytes.
@@ -209,7 +222,7 @@ pub fn put_escaped_line(out: &mut [u8], from: u32, at: usize, key: &[u8], s: &[u
 {
     let at = put_key(out, from, at, key);
     let at = put_escaped(out, from, at, s);
-    put_char(out, from, at, 10)
+    put_char(out, from, at, b'\n')
 }
 
 // A string of the first n units of s, as far as s reaches.
@@ -225,7 +238,7 @@ pub fn put_escaped_units_line(
 {
     let at = put_key(out, from, at, key);
     let at = put_escaped_units(out, from, at, s, n);
-    put_char(out, from, at, 10)
+    put_char(out, from, at, b'\n')
 }
 
 // A block, two digits a byte.
@@ -234,5 +247,5 @@ pub fn put_hex_block_line(out: &mut [u8], from: u32, at: usize, key: &[u8], s: &
 {
     let at = put_key(out, from, at, key);
     let at = put_hex_block(out, from, at, s);
-    put_char(out, from, at, 10)
+    put_char(out, from, at, b'\n')
 }

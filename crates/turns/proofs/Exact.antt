@@ -1,12 +1,8 @@
--- The code's kinds, their figures and the turns are the definition's: nothing is lost.
-use Prim.Native.Nat.{ℕ}
+-- The code's kinds and turns are the definition's: nothing is lost.
 use mathlib.Core.Path.{◌≡◌, refl, ap}
-use Rattle.protocol.specs.Layer as layer
 use Rattle.protocol.specs.Kind as kind
 use Rattle.writing.specs.Writer as writing
-use Rattle.layers.proofs.Exact.{is_layer, layer-exact}
-use Rattle.turns.specs.Says.{kind_is, turn_is, figures_say}
-use Rattle.turns.specs.declared.Figures.{Figures}
+use Rattle.turns.specs.Says.{kind_is, turn_is}
 use Rattle.turns.specs.declared.Kind.{Kind}
 use Rattle.turns.specs.declared.Kind.TheVariants as kind-case
 use Rattle.turns.specs.declared.Turn.{Turn}
@@ -67,9 +63,3 @@ turn-exact turn-case.Idle = refl
 turn-exact (turn-case.Body k) = ap turn-case.Body (kind-exact k)
 turn-exact (turn-case.Items k n) = ap (λ (j : Kind). turn-case.Items j n) (kind-exact k)
 turn-exact (turn-case.Parts n i) = refl
-
-abbrev figures_read : ℕ × (layer.Layer × ℕ) → Figures
-figures_read (i, (l, t)) = record { index = i; layer = is_layer l; content_type = t }
-
-pub figures-exact : (r : Figures) → r ≡ figures_read (figures_say r)
-figures-exact r = rw (← layer-exact r.layer) refl

@@ -1,10 +1,6 @@
--- Which kind and turn of the definition those of the code are, and what a kind's figures say.
-use Rattle.std.specs.Prelude.{ℕ}
-use Rattle.protocol.specs.Layer as layer
+-- Which kind and turn of the definition those of the code are.
 use Rattle.protocol.specs.Kind as kind
 use Rattle.writing.specs.Writer as writing
-use Rattle.layers.specs.Says.{layer_is}
-use Rattle.turns.specs.declared.Figures.{Figures}
 use Rattle.turns.specs.declared.Kind.{Kind}
 use Rattle.turns.specs.declared.Kind.TheVariants as kind-case
 use Rattle.turns.specs.declared.Turn.{Turn}
@@ -31,13 +27,6 @@ kind_is kind-case.PNam = kind.PNam
 kind_is kind-case.PLoc = kind.PLoc
 kind_is kind-case.LaserFeedList = kind.LaserFeedList
 kind_is kind-case.LaserFeedFrame = kind.LaserFeedFrame
-
--- index, layer and content type
-abbrev pub figures_of : kind.Kind → ℕ × (layer.Layer × ℕ)
-figures_of k = (kind.index k, (kind.layer k, kind.content_type k))
-
-abbrev pub figures_say : Figures → ℕ × (layer.Layer × ℕ)
-figures_say r = (r.index, (layer_is r.layer, r.content_type))
 
 abbrev pub turn_is : Turn → writing.Turn
 turn_is turn-case.Idle = writing.idle

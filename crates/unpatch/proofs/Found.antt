@@ -2,6 +2,7 @@
 use Rattle.std.proofs.Common.{◌≡◌, ℕ, zero, suc, ◌+◌, ◌<◌, ◌≤◌, Bool, true, false, ◌&&◌, ◌||◌, eqb, ltb, List, [], ◌∷◌, length, get_or, replicate, sym, refl, ap, ◌∙◌, subst, ap₂, arith, ltb-true, le-ltb, lt-ltb, eqb-true}
 use mathlib.Core.Bool.{or-false, and-false}
 use borrow.Author.Tests.{eqb-false}
+use Rattle.std.specs.Prelude.{Some, None}
 use Rattle.format.specs.Format.{pick}
 use Rattle.format.specs.Fault.{any}
 use Rattle.format.proofs.Bools.{neither}
@@ -146,22 +147,22 @@ module _ {base : ℕ} {ids : List ℕ} {xs : List Entry} {words ws : List ℕ} {
       bits = f.bits ∙ packs-ext-in now next 0 4 (λ j a b. sym (or-false (now j)) ∙ turn base ids xs i h false e j);
     }
 
-    module _ {r : ℕ} (o : Offset base id r) where
-      pub find-outside : 21888 ≤ r → Finding base ids xs words ws (i + 1)
-      find-outside l = pass (ap (λ (t : Bool). t && among ids id) (outside o l))
+    pub find-outside : Offset base id None → Finding base ids xs words ws (i + 1)
+    find-outside o = pass (ap (λ (t : Bool). t && among ids id) (outside base id o))
 
-      listed_by : (b : Bool) → r < 21888 → has_bit words r ≡ b → (within base id && among ids id) ≡ b
-      listed_by b l e = ap₂ (λ (s t : Bool). s && t) (inside o l) (sym (marked ids f.marked o l) ∙ e)
+    module _ (r : ℕ) (o : Offset base id (Some r)) where
+      listed_by : (b : Bool) → has_bit words r ≡ b → (within base id && among ids id) ≡ b
+      listed_by b e = ap₂ (λ (s t : Bool). s && t) (inside base id r o) (sym (marked base id r ids f.marked o) ∙ e)
 
-      pub find-not : r < 21888 → has_bit words r ≡ false → Finding base ids xs words ws (i + 1)
-      find-not l e = pass (listed_by false l e)
+      pub find-not : has_bit words r ≡ false → Finding base ids xs words ws (i + 1)
+      find-not e = pass (listed_by false e)
 
-      pub find-one : {vs : List ℕ} → length xs ≤ 256 → r < 21888 → has_bit words r ≡ true → vs ≡ with_bit ws i → Finding base ids xs words vs (i + 1)
-      find-one short l e v = record {
+      pub find-one : {vs : List ℕ} → length xs ≤ 256 → has_bit words r ≡ true → vs ≡ with_bit ws i → Finding base ids xs words vs (i + 1)
+      find-one short e v = record {
         passed = omega arith;
         marked = f.marked;
         bits = v
             ∙ ap (λ (t : List ℕ). with_bit t i) f.bits
             ∙ with-bit now 4 i (omega arith)
-            ∙ packs-ext-in (λ (j : ℕ). now j || eqb j i) next 0 4 (λ j a b. turn base ids xs i h true (listed_by true l e) j);
+            ∙ packs-ext-in (λ (j : ℕ). now j || eqb j i) next 0 4 (λ j a b. turn base ids xs i h true (listed_by true e) j);
       }

@@ -1,5 +1,6 @@
 -- The identifiers that an unpatch lists, and the bits by which it finds the entries to drop.
-use Rattle.std.specs.Prelude.{◌≡◌, ℕ, ◌+◌, ◌-◌, ◌*◌, ◌/◌, ◌%◌, ◌^◌, ◌<◌, ◌≤◌, Bool, ◌&&◌, List, ◌++◌, length, take, drop, ◌==◌, bit_or, nat_le, nat_lt, slice_index, slice_set}
+use Rattle.std.specs.Prelude.{◌≡◌, ℕ, ◌+◌, ◌*◌, ◌/◌, ◌%◌, ◌^◌, ◌<◌, ◌≤◌, Bool, ◌&&◌, ◌==◌, bit_or, nat_le, nat_lt}
+use Rattle.std.specs.Prelude.{List, ◌++◌, length, take, drop, slice_index, slice_set, Option, Some, None}
 use Rattle.format.specs.View.{units_of}
 use Rattle.patching.specs.Bits.{packs}
 use Rattle.patching.specs.Entry.{Entry, identifier}
@@ -42,10 +43,10 @@ within base k = nat_le base k && nat_lt k (base + 21888)
 abbrev pub lies_in : ℕ → Entry → Bool
 lies_in base x = within base (identifier x)
 
--- r is how far k is behind base where it lies in the range, and else 21,888 or more
-pub record Offset (base k r : ℕ) : Type 0 where
-  pub inside : r < 21888 → (base ≤ k) × (r ≡ k - base)
-  pub outside : 21888 ≤ r → base ≤ k → base + 21888 ≤ k
+-- how far k is behind base, if it lies in the range
+abbrev pub Offset : ℕ → ℕ → Option ℕ → Type 0
+Offset base k (Some r) = (r < 21888) × (base + r ≡ k)
+Offset base k None = base ≤ k → base + 21888 ≤ k
 
 -- the identifiers of the range that are listed, a bit each in 342 words
 abbrev pub marks : ℕ → List ℕ → List ℕ

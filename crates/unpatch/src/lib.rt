@@ -9,17 +9,10 @@ ghost use Rattle.patching.specs.Book.{drops};
 use entries::identifier;
 
 // How many identifiers a range has; three ranges have them all.
-const RANGE: u64 = 21_888;
+const RANGE: u16 = 21_888;
 
 // The words that have a bit for each.
 const WORDS: usize = 342;
-
-// A number of two bytes.
-fn joined(low: u8, high: u8) -> u64
-    ensures { result ≡ low + 256 * high }
-{
-    low as u64 + 256 * high as u64
-}
 
 // The i-th identifier that is listed.
 fn listed_at(identifiers: &[u8], i: usize) -> u64
@@ -27,7 +20,7 @@ fn listed_at(identifiers: &[u8], i: usize) -> u64
     ensures { result ≡ listed_at identifiers.now i }
 {
     let k = 2 * i;
-    joined(identifiers[k], identifiers[k + 1])
+    u16::from_le_bytes([identifiers[k], identifiers[k + 1]]) as u64
 }
 
 // ---- without bits
@@ -36,31 +29,26 @@ fn listed_at(identifiers: &[u8], i: usize) -> u64
 fn ahead_of(entries: &[u64], dropped: u64) -> usize
     ensures { Stay (dropped ∷ []) entries.now result }
 {
-    let mut i = 0;
-    while i < entries.len() {
+    for i in 0..entries.len() {
         if identifier(entries[i]) == dropped {
             return i;
         }
-        i += 1;
     }
-    i
+    entries.len()
 }
 
-// Drops the entries of one identifier.
-fn drop_one(entries: &mut [u64], dropped: u64) -> usize
+// Drops the entries of one identifier; how many there are then.
+pub fn drop_one(entries: &mut [u64], dropped: u64) -> usize
     ensures { Dropped (dropped ∷ []) entries.old result entries.new }
 {
     let from = ahead_of(entries, dropped);
     let mut kept = from;
-    let mut i = from;
-    while i < entries.len() {
+    for i in from..entries.len() {
         let x = entries[i];
-        i += 1;
-        if identifier(x) == dropped {
-            continue;
+        if identifier(x) != dropped {
+            entries[kept] = x;
+            kept += 1;
         }
-        entries[kept] = x;
-        kept += 1;
     }
     kept
 }
@@ -70,12 +58,10 @@ fn is_dropped(identifiers: &[u8], identifier: u64) -> bool
     ensures { result ≡ drops (identifiers_of identifiers.now) identifier }
 {
     let n = identifiers.len() / 2;
-    let mut i = 0;
-    while i < n {
+    for i in 0..n {
         if listed_at(identifiers, i) == identifier {
             return true;
         }
-        i += 1;
     }
     n == 0
 }
@@ -85,15 +71,12 @@ fn drop_one_by_one(entries: &mut [u64], identifiers: &[u8]) -> usize
     ensures { Dropped (identifiers_of identifiers.now) entries.old result entries.new }
 {
     let mut kept = 0;
-    let mut i = 0;
-    while i < entries.len() {
+    for i in 0..entries.len() {
         let x = entries[i];
-        i += 1;
-        if is_dropped(identifiers, identifier(x)) {
-            continue;
+        if !is_dropped(identifiers, identifier(x)) {
+            entries[kept] = x;
+            kept += 1;
         }
-        entries[kept] = x;
-        kept += 1;
     }
     kept
 }
@@ -115,46 +98,38 @@ fn set_bit(words: &mut [u64], j: u64)
     ensures { words.new ≡ with_bit words.old j }
 {
     let k = (j / 64) as usize;
-    words[k] = words[k] | 1u64 << (j % 64);
+    words[k] |= 1u64 << (j % 64);
 }
 
-// How far an identifier is behind the first of a range; RANGE or more where it lies outside.
-fn offset(identifier: u64, base: u64) -> u64
-    requires { base < 65536 }
+// How far an identifier is behind the first of a range, where it lies in it.
+fn offset(identifier: u64, base: u16) -> Option<u64>
     ensures { Offset base identifier result }
 {
-    std::num::wrapping_sub_u64(identifier, base)
+    let at = identifier.wrapping_sub(base as u64);
+    if at < RANGE as u64 { Some(at) } else { None }
 }
 
 // An entry's identifier lies in the range from `base` on.
-fn any_within(entries: &[u64], base: u64) -> bool
-    requires { base < 65536 }
+fn any_within(entries: &[u64], base: u16) -> bool
     ensures { result ≡ any (lies_in base) entries.now }
 {
-    let mut i = 0;
-    while i < entries.len() {
-        if offset(identifier(entries[i]), base) < RANGE {
+    for x in entries {
+        if offset(identifier(*x), base).is_some() {
             return true;
         }
-        i += 1;
     }
     false
 }
 
 // Sets the bits of the identifiers that are listed and lie in the range from `base` on.
-fn mark(words: &mut [u64], identifiers: &[u8], base: u64)
-    requires { (base < 65536) × (words.old ≡ marks base []) }
+fn mark(words: &mut [u64], identifiers: &[u8], base: u16)
+    requires { words.old ≡ marks base [] }
     ensures { words.new ≡ marks base (identifiers_of identifiers.now) }
 {
-    let n = identifiers.len() / 2;
-    let mut i = 0;
-    while i < n {
-        let at = offset(listed_at(identifiers, i), base);
-        i += 1;
-        if RANGE <= at {
-            continue;
+    for i in 0..identifiers.len() / 2 {
+        if let Some(at) = offset(listed_at(identifiers, i), base) {
+            set_bit(words, at);
         }
-        set_bit(words, at);
     }
 }
 
@@ -167,8 +142,8 @@ fn opaque_zero(n: u64) -> u64
 }
 
 // Sets the bits of the entries whose identifiers are listed and lie in the range from `base` on.
-fn find_within(found: &mut [u64], entries: &[u64], identifiers: &[u8], base: u64)
-    requires { (base < 65536) × (length entries.now ≤ 256)
+fn find_within(found: &mut [u64], entries: &[u64], identifiers: &[u8], base: u16)
+    requires { (length entries.now ≤ 256)
         × (found.old ≡ found_below base (identifiers_of identifiers.now) entries.now) }
     ensures { found.new ≡ found_below (base + 21888) (identifiers_of identifiers.now) entries.now }
 {
@@ -178,16 +153,11 @@ fn find_within(found: &mut [u64], entries: &[u64], identifiers: &[u8], base: u64
     let zero = opaque_zero(identifiers.len() as u64);
     let mut words = [zero; WORDS];
     mark(&mut words, identifiers, base);
-    let mut i = 0;
-    while i < entries.len() {
-        let j = i;
-        let at = offset(identifier(entries[i]), base);
-        i += 1;
-        if RANGE <= at {
-            continue;
-        }
-        if has_bit(&words, at) {
-            set_bit(found, j as u64);
+    for i in 0..entries.len() {
+        if let Some(at) = offset(identifier(entries[i]), base) {
+            if has_bit(&words, at) {
+                set_bit(found, i as u64);
+            }
         }
     }
 }
@@ -211,16 +181,12 @@ fn drop_by_ranges(entries: &mut [u64], identifiers: &[u8]) -> usize
 {
     let found = find_listed(entries, identifiers);
     let mut kept = 0;
-    let mut i = 0;
-    while i < entries.len() {
+    for i in 0..entries.len() {
         let x = entries[i];
-        let j = i as u64;
-        i += 1;
-        if has_bit(&found, j) {
-            continue;
+        if !has_bit(&found, i as u64) {
+            entries[kept] = x;
+            kept += 1;
         }
-        entries[kept] = x;
-        kept += 1;
     }
     kept
 }

@@ -4,32 +4,21 @@
 
 use caex::{FixtureListMessageType, LaserPoint};
 use fixture::{FixtureData, FloatBits, IdentifierType};
+use refusal::Refusal;
 use turns::Kind;
-use writer::{Writer, Written};
+use writer::Writer;
 
 const LAMPS: u16 = 36;
 
 // ---- the lamps, in four rows
 
-// For each row make, name, mode and place, 20 characters each.
-const NAMES: [u8; 320] = *b"\
-    ETC                 Source Four 26deg   Dimmer              front truss         \
-    Martin              MAC Aura            Standard            back truss          \
-    Robe                Robin Pointe        Mode 1              back truss          \
-    Robe                Robin LEDBeam 150   Mode 1              floor               ";
-
-const MAKE: usize = 0;
-
-const NAME: usize = 1;
-
-const MODE: usize = 2;
-
-const PLACE: usize = 3;
-
 // A lamp, and the steps to the next of its row. In metres: x across the stage, y up, z upstage. The tilt is in degrees.
 #[derive(Clone, Copy)]
 struct Lamp {
-    row: usize,
+    make: &'static str,
+    name: &'static str,
+    mode: &'static str,
+    place: &'static str,
     // the maker's ESTA number, low byte first
     manufacturer_id: [u8; 2],
     channel_count: u16,
@@ -50,7 +39,10 @@ struct Lamp {
 
 // Lamps 1 to 12.
 const SOURCE_FOUR: Lamp = Lamp {
-    row: 0,
+    make: "ETC",
+    name: "Source Four 26deg",
+    mode: "Dimmer",
+    place: "front truss",
     manufacturer_id: [0x74, 0x65],
     channel_count: 1,
     is_dimmer: 1,
@@ -68,7 +60,10 @@ const SOURCE_FOUR: Lamp = Lamp {
 
 // Lamps 13 to 20.
 const MAC_AURA: Lamp = Lamp {
-    row: 1,
+    make: "Martin",
+    name: "MAC Aura",
+    mode: "Standard",
+    place: "back truss",
     manufacturer_id: [0x50, 0x4D],
     channel_count: 14,
     is_dimmer: 0,
@@ -84,9 +79,12 @@ const MAC_AURA: Lamp = Lamp {
     tilt: 0.0,
 };
 
-// Lamps 21 to 28, between those of row 1.
+// Lamps 21 to 28, between the MAC Auras.
 const POINTE: Lamp = Lamp {
-    row: 2,
+    make: "Robe",
+    name: "Robin Pointe",
+    mode: "Mode 1",
+    place: "back truss",
     manufacturer_id: [0x53, 0x52],
     channel_count: 24,
     is_dimmer: 0,
@@ -104,7 +102,10 @@ const POINTE: Lamp = Lamp {
 
 // Lamps 29 to 36, upright.
 const LED_BEAM: Lamp = Lamp {
-    row: 3,
+    make: "Robe",
+    name: "Robin LEDBeam 150",
+    mode: "Mode 1",
+    place: "floor",
     manufacturer_id: [0x53, 0x52],
     channel_count: 22,
     is_dimmer: 0,
@@ -124,74 +125,32 @@ impl Lamp {
     // The lamp so many further along its row.
     fn after(mut self, n: u16) -> Lamp {
         for _ in 0..n {
-            self.number = std::num::wrapping_add_u16(self.number, 1);
-            self.unit = std::num::wrapping_add_u16(self.unit, self.unit_step);
-            self.channel = std::num::wrapping_add_u16(self.channel, self.channel_count);
-            self.x = self.x + self.x_step;
+            self.number = self.number.wrapping_add(1);
+            self.unit = self.unit.wrapping_add(self.unit_step);
+            self.channel = self.channel.wrapping_add(self.channel_count);
+            self.x += self.x_step;
         }
         self
     }
 }
 
 fn lamp_at(n: u16) -> Lamp {
-    if n < 12 {
-        return SOURCE_FOUR.after(n);
+    match n {
+        0..=11 => SOURCE_FOUR.after(n),
+        12..=19 => MAC_AURA.after(n - 12),
+        20..=27 => POINTE.after(n - 20),
+        _ => LED_BEAM.after(n - 28),
     }
-    if n < 20 {
-        return MAC_AURA.after(n - 12);
-    }
-    if n < 28 {
-        return POINTE.after(n - 20);
-    }
-    LED_BEAM.after(n - 28)
 }
 
 // ---- text
 
-#[derive(Clone, Copy)]
-struct Text {
-    bytes: [u8; 20],
-    units: [u16; 20],
-    // without the spaces behind it
-    len: usize,
-}
-
-fn wide(byte: u8) -> u16 {
-    byte as u16
-}
-
-fn name_of(row: usize, column: usize) -> Text {
-    let names = NAMES;
-    let start = 80 * (row % 4) + 20 * (column % 4);
-    let mut text = Text {
-        bytes: [0; 20],
-        units: [0; 20],
-        len: 0,
-    };
-    for i in 0..20 {
-        let c = names[start + i];
-        text.bytes[i] = c;
-        text.units[i] = wide(c);
-        if c != b' ' {
-            text.len = i + 1;
-        }
+// A name's units, in a buffer that all names here fit.
+fn wide<'a>(name: &str, units: &'a mut [u16; 20]) -> &'a [u16] {
+    for (unit, byte) in units.iter_mut().zip(name.bytes()) {
+        *unit = u16::from(byte);
     }
-    text
-}
-
-// The first so many units; all where there are fewer.
-fn first(units: &[u16], count: usize) -> &[u16] {
-    if count < units.len() {
-        return &units[0..count];
-    }
-    units
-}
-
-fn start(bytes: &[u8], count: usize) -> &[u8] {
-    if count < bytes.len() {
-        return &bytes[0..count];
-    }
-    bytes
+    &units[..name.len().min(20)]
 }
 
 // Two decimal digits.
@@ -201,48 +160,42 @@ fn digits(n: u16) -> [u16; 2] {
 
 // ---- packets
 
-fn opened(out: &mut [u8], kind: Kind, content_hint: u32) -> Writer {
-    Writer::new().open(out, kind, 0, content_hint).writer
+fn opened(out: &mut [u8], kind: Kind, content_hint: u32) -> Result<Writer, Refusal> {
+    Writer::new().open(out, kind, 0, content_hint)
 }
 
-// Closes the packet and writes it out; a refused call leaves it unfinished, and nothing is written.
-fn send(stdout: &impl Print, out: &mut [u8], given: Written) {
-    let closed = given.writer.close(out);
-    let at = closed.writer.at;
-    if closed.number == 0 {
-        if at <= out.len() {
-            let _ = stdout.write_all(&out[0..at]);
-        }
+// Closes the packet and writes it out.
+fn send(stdout: &impl Print, out: &mut [u8], w: Writer) -> Result<(), Refusal> {
+    let closed = w.close(out)?;
+    if let Some(packet) = out.get(..closed.at) {
+        let _ = stdout.write_all(packet);
     }
+    Ok(())
 }
 
-fn send_pnam(stdout: &impl Print, out: &mut [u8]) {
-    let given = opened(out, Kind::PNam, 0).pnam(out, b"Small rig desk");
-    send(stdout, out, given);
+fn send_pnam(stdout: &impl Print, out: &mut [u8]) -> Result<(), Refusal> {
+    let w = opened(out, Kind::PNam, 0)?.pnam(out, b"Small rig desk")?;
+    send(stdout, out, w)
 }
 
-fn send_enter_show(stdout: &impl Print, out: &mut [u8]) {
-    // Small rig
-    let given = opened(out, Kind::EnterShow, 0).enter_show(
-        out,
-        &[83, 109, 97, 108, 108, 32, 114, 105, 103],
-    );
-    send(stdout, out, given);
+fn send_enter_show(stdout: &impl Print, out: &mut [u8]) -> Result<(), Refusal> {
+    let w = opened(out, Kind::EnterShow, 0)?.enter_show(out, wide("Small rig", &mut [0; 20]))?;
+    send(stdout, out, w)
 }
 
-fn send_unam(stdout: &impl Print, out: &mut [u8], universe_index: u8, universe_name: &[u8]) {
-    let given = opened(out, Kind::UNam, 0).unam(out, universe_index, universe_name);
-    send(stdout, out, given);
+fn send_unam(
+    stdout: &impl Print,
+    out: &mut [u8],
+    universe_index: u8,
+    universe_name: &[u8],
+) -> Result<(), Refusal> {
+    let w = opened(out, Kind::UNam, 0)?.unam(out, universe_index, universe_name)?;
+    send(stdout, out, w)
 }
 
-fn send_sele(stdout: &impl Print, out: &mut [u8]) {
-    let given = opened(out, Kind::Sele, 0).sele(
-        out,
-        1,
-        0,
-        &[1, 2, 3, 4, 5, 6, 7, 8, 9, 10, 11, 12],
-    );
-    send(stdout, out, given);
+fn send_sele(stdout: &impl Print, out: &mut [u8]) -> Result<(), Refusal> {
+    let w = opened(out, Kind::Sele, 0)?.sele(out, 1, 0, &[1, 2, 3, 4, 5, 6, 7, 8, 9, 10, 11, 12])?;
+    send(stdout, out, w)
 }
 
 fn send_chbk(
@@ -251,9 +204,9 @@ fn send_chbk(
     universe_index: u8,
     first_channel: u16,
     levels: &[u8],
-) {
-    let given = opened(out, Kind::ChBk, 0).chbk(out, 0, universe_index, first_channel, levels);
-    send(stdout, out, given);
+) -> Result<(), Refusal> {
+    let w = opened(out, Kind::ChBk, 0)?.chbk(out, 0, universe_index, first_channel, levels)?;
+    send(stdout, out, w)
 }
 
 // ---- the fixture list
@@ -289,81 +242,46 @@ fn data(lamp: Lamp) -> FixtureData {
     }
 }
 
-fn write_identifiers(out: &mut [u8], w: Writer, lamp: Lamp) -> Written {
-    let maker = w.identifier(
+fn write_identifiers(out: &mut [u8], w: Writer, lamp: Lamp) -> Result<Writer, Refusal> {
+    let w = w.identifier(
         out,
         IdentifierType::RDMManufacturerId,
         &lamp.manufacturer_id,
-    );
-    maker
-        .writer
-        .identifier(out, IdentifierType::CaptureInstanceId, &instance(lamp))
+    )?;
+    w.identifier(out, IdentifierType::CaptureInstanceId, &instance(lamp))
 }
 
-fn write_fixture(
-    out: &mut [u8],
-    w: Writer,
-    lamp: Lamp,
-    make: &[u16],
-    name: &[u16],
-    mode: &[u16],
-    place: &[u16],
-) -> Written {
-    let head = w.fixture_head(
+fn write_lamp(out: &mut [u8], w: Writer, lamp: Lamp) -> Result<Writer, Refusal> {
+    let w = w.fixture_head(
         out,
-        lamp.number as u32,
-        make,
-        name,
-        mode,
+        u32::from(lamp.number),
+        wide(lamp.make, &mut [0; 20]),
+        wide(lamp.name, &mut [0; 20]),
+        wide(lamp.mode, &mut [0; 20]),
         lamp.channel_count,
         lamp.is_dimmer,
         2,
-    );
-    let identifiers = write_identifiers(out, head.writer, lamp);
-    identifiers.writer.fixture_data(
+    )?;
+    let w = write_identifiers(out, w, lamp)?;
+    w.fixture_data(
         out,
         data(lamp),
         &digits(lamp.unit),
         &digits(lamp.number),
-        place,
+        wide(lamp.place, &mut [0; 20]),
     )
 }
 
-fn write_lamp(out: &mut [u8], w: Writer, lamp: Lamp) -> Written {
-    let make = name_of(lamp.row, MAKE);
-    let name = name_of(lamp.row, NAME);
-    let mode = name_of(lamp.row, MODE);
-    let place = name_of(lamp.row, PLACE);
-    write_fixture(
-        out,
-        w,
-        lamp,
-        first(&make.units, make.len),
-        first(&name.units, name.len),
-        first(&mode.units, mode.len),
-        first(&place.units, place.len),
-    )
-}
-
-fn write_fixtures(out: &mut [u8], head: Written) -> Written {
-    let mut given = head;
-    let mut n: u16 = 0;
-    while n < LAMPS {
-        given = write_lamp(out, given.writer, lamp_at(n));
-        n += 1;
-    }
-    given
-}
-
-fn send_fixture_list(stdout: &impl Print, out: &mut [u8]) {
-    let w = opened(out, Kind::FixtureList, 0);
-    let head = w.fixture_list_head(
+fn send_fixture_list(stdout: &impl Print, out: &mut [u8]) -> Result<(), Refusal> {
+    let mut w = opened(out, Kind::FixtureList, 0)?.fixture_list_head(
         out,
         FixtureListMessageType::ExistingPatchList,
-        LAMPS as usize,
-    );
-    let given = write_fixtures(out, head);
-    send(stdout, out, given);
+        usize::from(LAMPS),
+    )?;
+    for n in 0..LAMPS {
+        w = write_lamp(out, w, lamp_at(n))?;
+    }
+    send(stdout, out, w)
 }
 
 // ---- the patch
@@ -373,46 +291,43 @@ fn content_hint(lamp: Lamp) -> u32 {
     if lamp.number < LAMPS { 1 } else { 2 }
 }
 
-fn send_ptch(stdout: &impl Print, out: &mut [u8], lamp: Lamp) {
-    let make = name_of(lamp.row, MAKE);
-    let name = name_of(lamp.row, NAME);
-    let given = opened(out, Kind::Ptch, content_hint(lamp)).ptch(
+fn send_ptch(stdout: &impl Print, out: &mut [u8], lamp: Lamp) -> Result<(), Refusal> {
+    let w = opened(out, Kind::Ptch, content_hint(lamp))?.ptch(
         out,
         lamp.number,
         lamp.universe,
         0,
         lamp.channel,
         lamp.channel_count,
-        start(&make.bytes, make.len),
-        start(&name.bytes, name.len),
-    );
-    send(stdout, out, given);
+        lamp.make.as_bytes(),
+        lamp.name.as_bytes(),
+    )?;
+    send(stdout, out, w)
 }
 
-fn send_patch(stdout: &impl Print, out: &mut [u8]) {
-    let mut n: u16 = 0;
-    while n < LAMPS {
-        send_ptch(stdout, out, lamp_at(n));
-        n += 1;
+fn send_patch(stdout: &impl Print, out: &mut [u8]) -> Result<(), Refusal> {
+    for n in 0..LAMPS {
+        send_ptch(stdout, out, lamp_at(n))?;
     }
+    Ok(())
 }
 
-fn send_universes(stdout: &impl Print, out: &mut [u8]) {
-    send_unam(stdout, out, 0, b"Dimmers and wash");
-    send_unam(stdout, out, 1, b"Spots and beams");
+fn send_universes(stdout: &impl Print, out: &mut [u8]) -> Result<(), Refusal> {
+    send_unam(stdout, out, 0, b"Dimmers and wash")?;
+    send_unam(stdout, out, 1, b"Spots and beams")
 }
 
 // The front dimmers at 70 %, the first MAC Aura open in amber, the second universe dark.
-fn send_levels(stdout: &impl Print, out: &mut [u8]) {
-    send_chbk(stdout, out, 0, 0, &[178; 12]);
+fn send_levels(stdout: &impl Print, out: &mut [u8]) -> Result<(), Refusal> {
+    send_chbk(stdout, out, 0, 0, &[178; 12])?;
     send_chbk(
         stdout,
         out,
         0,
         20,
         &[30, 255, 128, 128, 0, 128, 0, 0, 0, 255, 120, 0, 0, 0],
-    );
-    send_chbk(stdout, out, 1, 0, &[0; 376]);
+    )?;
+    send_chbk(stdout, out, 1, 0, &[0; 376])
 }
 
 // ---- the laser controller
@@ -420,14 +335,11 @@ fn send_levels(stdout: &impl Print, out: &mut [u8]) {
 // In its list and in its frames.
 const SOURCE_KEY: u32 = 0x4C415331;
 
-fn send_laser_feed_list(stdout: &impl Print, out: &mut [u8]) {
-    let w = opened(out, Kind::LaserFeedList, 0);
-    let head = w.laser_feed_list_head(out, SOURCE_KEY, 2);
-    // Wall
-    let wall = head.writer.feed_name(out, &[87, 97, 108, 108]);
-    // Haze
-    let given = wall.writer.feed_name(out, &[72, 97, 122, 101]);
-    send(stdout, out, given);
+fn send_laser_feed_list(stdout: &impl Print, out: &mut [u8]) -> Result<(), Refusal> {
+    let w = opened(out, Kind::LaserFeedList, 0)?.laser_feed_list_head(out, SOURCE_KEY, 2)?;
+    let w = w.feed_name(out, wide("Wall", &mut [0; 20]))?;
+    let w = w.feed_name(out, wide("Haze", &mut [0; 20]))?;
+    send(stdout, out, w)
 }
 
 // In green; x and y have 12 bits.
@@ -440,35 +352,34 @@ fn point(x: u16, y: u16) -> LaserPoint {
     }
 }
 
-fn write_points(out: &mut [u8], w: Writer, a: LaserPoint, b: LaserPoint) -> Written {
-    let first = w.laser_point(out, a);
-    first.writer.laser_point(out, b)
-}
-
 // From its left corner round to it again.
-fn write_triangle(out: &mut [u8], w: Writer) -> Written {
-    let base = write_points(out, w, point(1000, 1000), point(3000, 1000));
-    write_points(out, base.writer, point(2000, 3000), point(1000, 1000))
+fn write_triangle(out: &mut [u8], w: Writer) -> Result<Writer, Refusal> {
+    let w = w.laser_point(out, point(1000, 1000))?;
+    let w = w.laser_point(out, point(3000, 1000))?;
+    let w = w.laser_point(out, point(2000, 3000))?;
+    w.laser_point(out, point(1000, 1000))
 }
 
 // The first frame on the wall.
-fn send_laser_feed_frame(stdout: &impl Print, out: &mut [u8]) {
-    let w = opened(out, Kind::LaserFeedFrame, 0);
-    let head = w.laser_feed_frame_head(out, SOURCE_KEY, 0, 0, 4);
-    let given = write_triangle(out, head.writer);
-    send(stdout, out, given);
+fn send_laser_feed_frame(stdout: &impl Print, out: &mut [u8]) -> Result<(), Refusal> {
+    let w = opened(out, Kind::LaserFeedFrame, 0)?.laser_feed_frame_head(out, SOURCE_KEY, 0, 0, 4)?;
+    let w = write_triangle(out, w)?;
+    send(stdout, out, w)
 }
 
+fn send_rig(stdout: &impl Print, out: &mut [u8]) -> Result<(), Refusal> {
+    send_pnam(stdout, out)?;
+    send_enter_show(stdout, out)?;
+    send_universes(stdout, out)?;
+    send_fixture_list(stdout, out)?;
+    send_patch(stdout, out)?;
+    send_sele(stdout, out)?;
+    send_levels(stdout, out)?;
+    send_laser_feed_list(stdout, out)?;
+    send_laser_feed_frame(stdout, out)
+}
+
+// No call is refused: all fits the output, and stands in turn.
 fn main(rt: HostRuntime) {
-    let stdout = rt.stdout();
-    let mut out = [0u8; 65536];
-    send_pnam(&stdout, &mut out);
-    send_enter_show(&stdout, &mut out);
-    send_universes(&stdout, &mut out);
-    send_fixture_list(&stdout, &mut out);
-    send_patch(&stdout, &mut out);
-    send_sele(&stdout, &mut out);
-    send_levels(&stdout, &mut out);
-    send_laser_feed_list(&stdout, &mut out);
-    send_laser_feed_frame(&stdout, &mut out);
+    let _ = send_rig(&rt.stdout(), &mut [0u8; 65536]);
 }

@@ -13,10 +13,10 @@ use Rattle.format.specs.View.{units_of}
 use Rattle.format.specs.Copy.{took, denied, copied, copy_cstring, copy_ucs2, copy_numbers}
 use Rattle.format.proofs.Passing.{items-short}
 use Rattle.format.proofs.Copies.{cstring-whole, ucs2-whole}
-use Rattle.search.specs.Zero.{before_zero, units_to_zero, none}
-use Rattle.search.proofs.Zero.{units-within}
+use Rattle.std.specs.Prelude.{Some, None}
+use Rattle.search.specs.Zero.{bytes_to_zero, units_to_zero}
 use Rattle.wire.proofs.Numbers.{number_at, numbers_at, numbers-decoded, numbers-length, number_of}
-use Rattle.wire.proofs.Strings.{cstring-ends, cstring-unended, ucs2-ends, ucs2-unended, length-units, units-ended, units-unended}
+use Rattle.wire.proofs.Strings.{cstring-ends, cstring-unended, ucs2-ends, ucs2-unended, length-units, bytes-ended, bytes-unended, units-ended, units-unended}
 
 -- one element more of xs stands first in the output
 copy_more : (out xs : List ℕ) (i : ℕ) → i < length xs → i < length out →
@@ -50,51 +50,48 @@ module _ (r : Read (List ℕ)) (out : List ℕ) where
   taken : {xs t o : List ℕ} (n : ℕ) → r ≡ got xs t → length xs ≡ n → n ≤ length out → o ≡ xs ++ drop n out → (took n, o) ≡ copied r out
   taken n e l h p = rw (e, l, le-ltb (length out) n h, p)
 
--- a string of bytes; `end` is the offset of its zero
-module _ (s : List ℕ) (at : ℕ) (out : List ℕ) {end : ℕ} (e : end ≡ at + before_zero (drop at s)) where
-  bytes_read : end < length s → decode_cstring (drop at s) ≡ got (take (end - at) (drop at s)) (drop (suc (end - at)) (drop at s))
-  bytes_read h = let n : before_zero (drop at s) ≡ end - at = omega arith in rw (← n) (cstring-ends (drop at s) (omega (arith, length-drop at s)))
-
-  length-read : end < length s → length (take (end - at) (drop at s)) ≡ end - at
-  length-read h = length-take-le (end - at) (drop at s) (omega (arith, length-drop at s))
-
-  pub cstring-8 : length s ≤ end → (denied 8, out) ≡ copy_cstring s at out
+-- a string of n bytes
+module _ (s : List ℕ) (at : ℕ) (out : List ℕ) where
+  pub cstring-copy-8 : None ≡ bytes_to_zero (drop at s) → (denied 8, out) ≡ copy_cstring s at out
   unfolding copy_cstring
-  cstring-8 h = rw (cstring-whole s at) (not_read (decode_cstring (drop at s)) out (cstring-unended (drop at s) (omega (arith, length-drop at s))))
+  cstring-copy-8 e = rw (cstring-whole s at) (not_read (decode_cstring (drop at s)) out (cstring-unended (drop at s) (bytes-unended (drop at s) e)))
 
-  pub cstring-13 : end < length s → length out < end - at → (denied 13, out) ≡ copy_cstring s at out
-  unfolding copy_cstring
-  cstring-13 h l = rw (cstring-whole s at) (too_long (decode_cstring (drop at s)) out (end - at) (bytes_read h) (length-read h) l)
+  module _ {n : ℕ} (e : Some n ≡ bytes_to_zero (drop at s)) where
+    bytes_read : decode_cstring (drop at s) ≡ got (take n (drop at s)) (drop (suc n) (drop at s))
+    bytes_read = let b = bytes-ended (drop at s) e in rw b.0 (cstring-ends (drop at s) b.1)
 
-  pub cstring-copied : {o : List ℕ} → end < length s → end - at ≤ length out →
-      o ≡ take (end - at) (drop at s) ++ drop (end - at) out → (took (end - at), o) ≡ copy_cstring s at out
-  unfolding copy_cstring
-  cstring-copied h l p = rw (cstring-whole s at) (taken (decode_cstring (drop at s)) out (end - at) (bytes_read h) (length-read h) l p)
+    length-read : length (take n (drop at s)) ≡ n
+    length-read = let b = bytes-ended (drop at s) e in length-take-le n (drop at s) (omega (arith, b.0, b.1))
 
--- a string of n units, or without an end
-pub ucs2-8 : (s : List ℕ) (at : ℕ) (out : List ℕ) {n : ℕ} → length s ≤ none → n ≡ units_to_zero (drop at s) → n ≡ none → (denied 8, out) ≡ copy_ucs2 s at out
-unfolding copy_ucs2
-ucs2-8 s at out fits e h = rw (ucs2-whole s at) (not_read (decode_ucs2 (drop at s)) out (ucs2-unended (drop at s) (units-unended s at fits e h)))
+    pub cstring-copy-13 : length out < n → (denied 13, out) ≡ copy_cstring s at out
+    unfolding copy_cstring
+    cstring-copy-13 l = rw (cstring-whole s at) (too_long (decode_cstring (drop at s)) out n bytes_read length-read l)
 
-module _ (s : List ℕ) (at : ℕ) (out : List ℕ) {n : ℕ} (e : n ≡ units_to_zero (drop at s)) (h : n ≡ none → ⊥) where
-  units-read : decode_ucs2 (drop at s) ≡ got (units_of n (drop at s)) (drop (2 * n + 2) (drop at s))
-  units-read =
-      let t = units-ended s at e h in
-      rw t.0 (ucs2-ends (drop at s) (omega (arith, t.0, t.1, length-drop at s)))
+    pub cstring-copied : {o : List ℕ} → n ≤ length out → o ≡ take n (drop at s) ++ drop n out → (took n, o) ≡ copy_cstring s at out
+    unfolding copy_cstring
+    cstring-copied l p = rw (cstring-whole s at) (taken (decode_cstring (drop at s)) out n bytes_read length-read l p)
 
-  units-length : length (units_of n (drop at s)) ≡ n
-  units-length = length-units n (drop at s) (omega (arith, (units-ended s at e h).0, units-within (drop at s)))
-
-  pub units-room : 2 * n ≤ length s - at
-  units-room = omega (arith, (units-ended s at e h).0, units-within (drop at s), length-drop at s)
-
-  pub ucs2-13 : length out < n → (denied 13, out) ≡ copy_ucs2 s at out
+-- a string of n units
+module _ (s : List ℕ) (at : ℕ) (out : List ℕ) where
+  pub ucs2-copy-8 : None ≡ units_to_zero (drop at s) → (denied 8, out) ≡ copy_ucs2 s at out
   unfolding copy_ucs2
-  ucs2-13 l = rw (ucs2-whole s at) (too_long (decode_ucs2 (drop at s)) out n units-read units-length l)
+  ucs2-copy-8 e =
+      rw (ucs2-whole s at) (not_read (decode_ucs2 (drop at s)) out (ucs2-unended (drop at s) (omega (arith, units-unended (drop at s) e))))
 
-  pub ucs2-copied : {o : List ℕ} → n ≤ length out → o ≡ units_of n (drop at s) ++ drop n out → (took n, o) ≡ copy_ucs2 s at out
-  unfolding copy_ucs2
-  ucs2-copied l p = rw (ucs2-whole s at) (taken (decode_ucs2 (drop at s)) out n units-read units-length l p)
+  module _ {n : ℕ} (e : Some n ≡ units_to_zero (drop at s)) where
+    units-read : decode_ucs2 (drop at s) ≡ got (units_of n (drop at s)) (drop (2 * n + 2) (drop at s))
+    units-read = let b = units-ended (drop at s) e in rw b.0 (ucs2-ends (drop at s) b.1)
+
+    units-length : length (units_of n (drop at s)) ≡ n
+    units-length = let b = units-ended (drop at s) e in length-units n (drop at s) (omega (arith, b.0, b.1))
+
+    pub ucs2-copy-13 : length out < n → (denied 13, out) ≡ copy_ucs2 s at out
+    unfolding copy_ucs2
+    ucs2-copy-13 l = rw (ucs2-whole s at) (too_long (decode_ucs2 (drop at s)) out n units-read units-length l)
+
+    pub ucs2-copied : {o : List ℕ} → n ≤ length out → o ≡ units_of n (drop at s) ++ drop n out → (took n, o) ≡ copy_ucs2 s at out
+    unfolding copy_ucs2
+    ucs2-copied l p = rw (ucs2-whole s at) (taken (decode_ucs2 (drop at s)) out n units-read units-length l p)
 
 -- a list of n numbers of w bytes
 module _ (w : ℕ) (s : List ℕ) (at n : ℕ) (out : List ℕ) where

@@ -1,7 +1,6 @@
 pub mod Numbers
 pub mod Strings
 pub mod Stepping
-pub mod Plain
 pub mod Blocks
 pub mod Copying
 pub mod Says

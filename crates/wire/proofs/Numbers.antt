@@ -1,15 +1,12 @@
 -- A number, and a list of them, is there where the bytes are: laws over the width.
-use Prim.Native.Nat.{ℕ, zero, suc, ◌+◌, ◌-◌, ◌*◌, ◌/◌, ◌<◌, ◌≤◌}
+use Prim.Native.Nat.{ℕ, zero, suc, ◌+◌, ◌-◌, ◌*◌, ◌<◌, ◌≤◌}
 use mathlib.Core.Path.{◌≡◌, refl, ap, ◌∙◌}
-use mathlib.Core.Bool.{Bool, true, false}
 use mathlib.Core.List.{List, [], ◌∷◌}
-use native.Mathlib.Nat.{add-zero, zero-mul, suc-mul, le-div_iff_mul-le, div-lt_iff_lt-mul}
+use native.Mathlib.Nat.{add-zero, zero-mul, suc-mul}
 use native.Mathlib.Numerals.{add-one, add-two, add-three}
 use native.Mathlib.Omega.{arith}
-use borrow.Author.Tests.{le-leb, lt-leb, leb-true, leb-false}
 use lib.ListN.{length, drop, get_or, length-drop}
 use lib.Seq.{drop-cons}
-use lib.Dec.{leb}
 use Rattle.format.specs.Format.{Format, number, got, decode_number, decode_items, decode, size}
 use Rattle.format.specs.View.{seen, missed, view, placed, place, units_of}
 use Rattle.format.proofs.Width.{width}
@@ -49,16 +46,16 @@ module _ (s : List ℕ) (at : ℕ) {n : ℕ} where
   pub number-1 : 1 ≤ length s - at → n ≡ get_or s at 0 → seen n (at + 1) ≡ view (number 1) s at
   number-1 h e = number_is 1 s at h (omega arith)
 
-  pub joined-2 : n ≡ get_or s at 0 + 256 * get_or s (at + 1) 0 → n ≡ number_at 2 s at
+  pub joined-2 : n ≡ get_or s at 0 + get_or s (at + 1) 0 * 256 → n ≡ number_at 2 s at
   joined-2 e = e ∙ rw add-one (omega arith)
 
-  pub joined-4 : n ≡ get_or s at 0 + 256 * get_or s (at + 1) 0 + 65536 * get_or s (at + 2) 0 + 16777216 * get_or s (at + 3) 0 → n ≡ number_at 4 s at
+  pub joined-4 : n ≡ get_or s at 0 + get_or s (at + 1) 0 * 256 + get_or s (at + 2) 0 * 65536 + get_or s (at + 3) 0 * 16777216 → n ≡ number_at 4 s at
   joined-4 e = e ∙ rw (add-one, add-two, add-three) (omega arith)
 
-  pub number-2 : 2 ≤ length s - at → n ≡ get_or s at 0 + 256 * get_or s (at + 1) 0 → seen n (at + 2) ≡ view (number 2) s at
+  pub number-2 : 2 ≤ length s - at → n ≡ get_or s at 0 + get_or s (at + 1) 0 * 256 → seen n (at + 2) ≡ view (number 2) s at
   number-2 h e = number_is 2 s at h (joined-2 e)
 
-  pub number-4 : 4 ≤ length s - at → n ≡ get_or s at 0 + 256 * get_or s (at + 1) 0 + 65536 * get_or s (at + 2) 0 + 16777216 * get_or s (at + 3) 0 →
+  pub number-4 : 4 ≤ length s - at → n ≡ get_or s at 0 + get_or s (at + 1) 0 * 256 + get_or s (at + 2) 0 * 65536 + get_or s (at + 3) 0 * 16777216 →
       seen n (at + 4) ≡ view (number 4) s at
   number-4 h e = number_is 4 s at h (joined-4 e)
 
@@ -97,11 +94,3 @@ units-numbers s at (suc n) h =
     let on : suc (suc at) ≡ at + 2 = omega arith in
     let unit : get_or s at 0 + 256 * get_or s (suc at) 0 ≡ number_at 2 s at = omega arith in
     rw (drop-cons s at 0 low, drop-cons s (suc at) 0 high, unit, on, units-numbers s (at + 2) n (omega arith))
-
--- a product weighed by a quotient
-pub leb-div : (n w b : ℕ) → 0 < w → leb n (b / w) ≡ leb (n * w) b
-leb-div n w b h = by (leb (n * w) b) refl
-  where
-    by : (z : Bool) → leb (n * w) b ≡ z → leb n (b / w) ≡ z
-    by true e = le-leb n (b / w) ((le-div_iff_mul-le h).1 (leb-true (n * w) b e))
-    by false e = lt-leb n (b / w) ((div-lt_iff_lt-mul h).1 (leb-false (n * w) b e))

@@ -1,122 +1,103 @@
--- What an answer says determines it: each `Says` has an inverse, so nothing is lost.
-use Prim.Native.Nat.{ℕ}
-use mathlib.Core.Path.{◌≡◌, refl}
-use Rattle.format.specs.View.{Seen, seen, missed, Next, item, done, broken}
-use Rattle.format.specs.Copy.{Answer, took, denied}
-use Rattle.wire.specs.Says.{u8_says, u16_says, u32_says, cstring_says, ucs2_says, block_says, skip_says, u16_list_says, u32_list_says, items_says}
-use Rattle.wire.specs.Says.{u16_next_says, u32_next_says, copied_says}
+-- What an answer says determines it: each map has an inverse where the view that it is given has one, so nothing is lost.
+use Rattle.std.proofs.Common.{ℕ, zero, suc, ◌+◌, ◌≡◌, refl, ap}
+use Rattle.std.specs.Prelude.{Result, Ok, Err, Option, Some, None, IfOk, IfSome, MatchOption}
+use native.Mathlib.Numerals.{add-one}
+use Rattle.format.specs.View.{View, Seen, seen, missed, Next, item, done, broken}
+use Rattle.protocol.specs.Kind.{Kind, body_of}
+use Rattle.protocol.specs.Step.{Body, known, unread, refused_with}
+use Rattle.refusal.specs.declared.Refusal.{Refusal}
+use Rattle.refusal.proofs.Exact.{refusal_of, refusal-exact}
+use Rattle.wire.specs.Says.{says, passed_says, next_says, message_says, number_view, cstring_range, ucs2_range, block_range, list_range}
 use Rattle.wire.specs.declared.Cursor.{Cursor}
 use Rattle.wire.specs.declared.CString.{CString}
 use Rattle.wire.specs.declared.Ucs2.{Ucs2}
 use Rattle.wire.specs.declared.Block.{Block}
-use Rattle.wire.specs.declared.U16List.{U16List}
-use Rattle.wire.specs.declared.U32List.{U32List}
-use Rattle.wire.specs.declared.Items.{Items}
-use Rattle.wire.specs.declared.U8Read.{U8Read}
-use Rattle.wire.specs.declared.U16Read.{U16Read}
-use Rattle.wire.specs.declared.U32Read.{U32Read}
-use Rattle.wire.specs.declared.CStringRead.{CStringRead}
-use Rattle.wire.specs.declared.Ucs2Read.{Ucs2Read}
-use Rattle.wire.specs.declared.BlockRead.{BlockRead}
-use Rattle.wire.specs.declared.SkipRead.{SkipRead}
-use Rattle.wire.specs.declared.U16ListRead.{U16ListRead}
-use Rattle.wire.specs.declared.U32ListRead.{U32ListRead}
-use Rattle.wire.specs.declared.ItemsRead.{ItemsRead}
-use Rattle.wire.specs.declared.U16Next.{U16Next}
-use Rattle.wire.specs.declared.U32Next.{U32Next}
-use Rattle.wire.specs.declared.Copied.{Copied}
-use Rattle.wire.specs.declared.U8Read.TheVariants as u8
-use Rattle.wire.specs.declared.U16Read.TheVariants as u16
-use Rattle.wire.specs.declared.U32Read.TheVariants as u32
-use Rattle.wire.specs.declared.CStringRead.TheVariants as cstring
-use Rattle.wire.specs.declared.Ucs2Read.TheVariants as ucs2
-use Rattle.wire.specs.declared.BlockRead.TheVariants as block
-use Rattle.wire.specs.declared.SkipRead.TheVariants as skip
-use Rattle.wire.specs.declared.U16ListRead.TheVariants as u16-list
-use Rattle.wire.specs.declared.U32ListRead.TheVariants as u32-list
-use Rattle.wire.specs.declared.ItemsRead.TheVariants as items
-use Rattle.wire.specs.declared.U16Next.TheVariants as u16-next
-use Rattle.wire.specs.declared.U32Next.TheVariants as u32-next
-use Rattle.wire.specs.declared.Copied.TheVariants as copied
+use Rattle.wire.specs.declared.List.{List}
 
--- the answer about what was read, by its cases: what is seen with the cursor behind it, the number of a refusal
-abbrev pub read_by : {B A R : Type 0} → (A → Cursor → R) → (ℕ → R) → (B → A) → Seen B → R
-read_by read refused of (seen v e) = read (of v) (record { at = e })
-read_by read refused of (missed n) = refused n
+-- ---- answers
 
--- the answer of a step, by its cases: an item with what is left behind it, the end, the number of a refusal
-abbrev pub next_by : {B A L R : Type 0} → (A → L → R) → R → (ℕ → R) → (B → A) → (ℕ → ℕ → L) → Next B → R
-next_by next end refused of rest (item v e n) = next (of v) (rest e n)
-next_by next end refused of rest done = end
-next_by next end refused of rest (broken k) = refused k
+-- the answer about what was read: what is seen with the cursor behind it, or the refusal
+abbrev pub read_by : {A V : Type 0} → (V → A) → Seen V → Result (A × Cursor) Refusal
+read_by of (seen v e) = Ok (of v, record { at = e })
+read_by of (missed n) = Err (refusal_of n)
 
-abbrev same : ℕ → ℕ
-same n = n
+pub says-exact : {A V : Type 0} (view : A → V) (of : V → A) → ((x : A) → x ≡ of (view x)) → (r : Result (A × Cursor) Refusal) → r ≡ read_by of (says view r)
+says-exact view of exact (Ok x) = ap (λ a. Ok (a, x.1)) (exact x.0)
+says-exact view of exact (Err e) = ap (λ (y : Refusal). Err y) (refusal-exact e)
+
+-- the same where a view has its inverse on values of which so much is known
+pub says_known-exact : {A V : Type 0} (view : A → V) (of : V → A) (Known : A → Type 0) → ((x : A) → Known x → x ≡ of (view x))
+    → (r : Result (A × Cursor) Refusal) → IfOk r (λ x. Known x.0) → r ≡ read_by of (says view r)
+says_known-exact view of Known exact (Ok x) h = ap (λ a. Ok (a, x.1)) (exact x.0 h)
+says_known-exact view of Known exact (Err e) h = ap (λ (y : Refusal). Err y) (refusal-exact e)
+
+abbrev pub passed_by : Seen (Unit {0}) → Result Cursor Refusal
+passed_by (seen v e) = Ok (record { at = e })
+passed_by (missed n) = Err (refusal_of n)
+
+pub passed-exact : (r : Result Cursor Refusal) → r ≡ passed_by (passed_says r)
+passed-exact (Ok c) = refl
+passed-exact (Err e) = ap (λ (y : Refusal). Err y) (refusal-exact e)
+
+abbrev pub next_by : {A N V : Type 0} → (V → A) → (ℕ → N) → Next V → Result (Option (A × List A N)) Refusal
+next_by of left (item v e n) = Ok (Some (of v, record { at = e; left = left n; of = record {} }))
+next_by of left done = Ok None
+next_by of left (broken n) = Err (refusal_of n)
+
+pub next-exact : {A N V : Type 0} (view : A → V) (count : N → ℕ) (of : V → A) (left : ℕ → N) (Known : A → Type 0)
+    → ((x : A) → Known x → x ≡ of (view x)) → ((n : N) → n ≡ left (count n))
+    → (r : Result (Option (A × List A N)) Refusal) → IfOk r (λ o. IfSome o (λ x. Known x.0)) → r ≡ next_by of left (next_says view count r)
+next-exact view count of left Known exact counts (Ok (Some x)) h = rw (← exact x.0 h, ← counts x.1.left) refl
+next-exact view count of left Known exact counts (Ok None) h = refl
+next-exact view count of left Known exact counts (Err e) h = ap (λ (y : Refusal). Err y) (refusal-exact e)
+
+abbrev pub message_by : {M : Type 0} → ((k : Kind) → View (body_of k) → M) → Body View → Result (Option (M × Cursor)) Refusal
+message_by of (known k v e) = Ok (Some (of k v, record { at = e }))
+message_by of unread = Ok None
+message_by of (refused_with n) = Err (refusal_of n)
+
+pub message-exact : {M : Type 0} (kind : M → Kind) (view : (m : M) → View (body_of (kind m))) (of : (k : Kind) → View (body_of k) → M)
+    → ((m : M) → m ≡ of (kind m) (view m)) → (r : Result (Option (M × Cursor)) Refusal) → r ≡ message_by of (message_says kind view r)
+message-exact kind view of exact (Ok (Some x)) = ap (λ m. Ok (Some (m, x.1))) (exact x.0)
+message-exact kind view of exact (Ok None) = refl
+message-exact kind view of exact (Err e) = ap (λ (y : Refusal). Err y) (refusal-exact e)
+
+-- a count that is one less than n, or none where n is 0
+abbrev pub less_by : {N : Type 0} → (ℕ → N) → ℕ → Option N
+less_by left zero = None
+less_by left (suc n) = Some (left n)
+
+pub less-exact : {N : Type 0} (count : N → ℕ) (left : ℕ → N) → ((n : N) → n ≡ left (count n))
+    → (n : ℕ) (r : Option N) → MatchOption r (n ≡ 0) (λ k. n ≡ count k + 1) → r ≡ less_by left n
+less-exact count left exact n (Some k) h = rw (h, add-one) (ap Some (exact k))
+less-exact count left exact n None h = rw h refl
+
+-- ---- views
+
+pub number_view-exact : (n : ℕ) → n ≡ number_view n
+number_view-exact n = refl
 
 abbrev cstring_of : ℕ × ℕ → CString
 cstring_of x = record { start = x.0; len = x.1 }
 
+pub cstring_range-exact : (x : CString) → x ≡ cstring_of (cstring_range x)
+cstring_range-exact x = refl
+
 abbrev ucs2_of : ℕ × ℕ → Ucs2
 ucs2_of x = record { start = x.0; len = x.1 }
+
+pub ucs2_range-exact : (x : Ucs2) → x ≡ ucs2_of (ucs2_range x)
+ucs2_range-exact x = refl
 
 abbrev block_of : ℕ × ℕ → Block
 block_of x = record { start = x.0; len = x.1 }
 
-abbrev u16_list_of : ℕ × ℕ → U16List
-u16_list_of x = record { at = x.0; left = x.1 }
+pub block_range-exact : (x : Block) → x ≡ block_of (block_range x)
+block_range-exact x = refl
 
-abbrev u32_list_of : ℕ × ℕ → U32List
-u32_list_of x = record { at = x.0; left = x.1 }
+abbrev pub list_by : {A N : Type 0} → (ℕ → N) → ℕ × ℕ → List A N
+list_by left x = record { at = x.0; left = left x.1; of = record {} }
 
-abbrev items_of : ℕ × ℕ → Items
-items_of x = record { at = x.0; left = x.1 }
-
--- ---- fields
-
-pub u8-exact : (r : U8Read) → r ≡ read_by u8.Read (λ k. u8.Short) same (u8_says r)
-u8-exact = elim [ u8.Read x c ↦ refl | u8.Short ↦ refl ]
-
-pub u16-exact : (r : U16Read) → r ≡ read_by u16.Read (λ k. u16.Short) same (u16_says r)
-u16-exact = elim [ u16.Read x c ↦ refl | u16.Short ↦ refl ]
-
-pub u32-exact : (r : U32Read) → r ≡ read_by u32.Read (λ k. u32.Short) same (u32_says r)
-u32-exact = elim [ u32.Read x c ↦ refl | u32.Short ↦ refl ]
-
-pub cstring-exact : (r : CStringRead) → r ≡ read_by cstring.Read cstring.Refused cstring_of (cstring_says r)
-cstring-exact = elim [ cstring.Read x c ↦ refl | cstring.Refused k ↦ refl ]
-
-pub ucs2-exact : (r : Ucs2Read) → r ≡ read_by ucs2.Read ucs2.Refused ucs2_of (ucs2_says r)
-ucs2-exact = elim [ ucs2.Read x c ↦ refl | ucs2.Refused k ↦ refl ]
-
-pub block-exact : (r : BlockRead) → r ≡ read_by block.Read (λ k. block.Short) block_of (block_says r)
-block-exact = elim [ block.Read x c ↦ refl | block.Short ↦ refl ]
-
-pub skip-exact : (r : SkipRead) → r ≡ read_by (λ u c. skip.Past c) (λ k. skip.Short) (λ u. u) (skip_says r)
-skip-exact = elim [ skip.Past c ↦ refl | skip.Short ↦ refl ]
-
-pub u16_list-exact : (r : U16ListRead) → r ≡ read_by u16-list.Read (λ k. u16-list.Short) u16_list_of (u16_list_says r)
-u16_list-exact = elim [ u16-list.Read x c ↦ refl | u16-list.Short ↦ refl ]
-
-pub u32_list-exact : (r : U32ListRead) → r ≡ read_by u32-list.Read (λ k. u32-list.Short) u32_list_of (u32_list_says r)
-u32_list-exact = elim [ u32-list.Read x c ↦ refl | u32-list.Short ↦ refl ]
-
-pub items-exact : (r : ItemsRead) → r ≡ read_by items.Read (λ k. items.Short) items_of (items_says r)
-items-exact = elim [ items.Read x c ↦ refl | items.Short ↦ refl ]
-
--- ---- steps
-
-pub u16_next-exact : (r : U16Next) → r ≡ next_by u16-next.Item u16-next.Done u16-next.Refused same (λ e n. u16_list_of (e, n)) (u16_next_says r)
-u16_next-exact = elim [ u16-next.Item x l ↦ refl | u16-next.Done ↦ refl | u16-next.Refused k ↦ refl ]
-
-pub u32_next-exact : (r : U32Next) → r ≡ next_by u32-next.Item u32-next.Done u32-next.Refused same (λ e n. u32_list_of (e, n)) (u32_next_says r)
-u32_next-exact = elim [ u32-next.Item x l ↦ refl | u32-next.Done ↦ refl | u32-next.Refused k ↦ refl ]
-
--- ---- copies
-
-abbrev copied_of : Answer → Copied
-copied_of (took n) = copied.Copied n
-copied_of (denied k) = copied.Refused k
-
-pub copied-exact : (r : Copied) → r ≡ copied_of (copied_says r)
-copied-exact (copied.Copied n) = refl
-copied-exact (copied.Refused k) = refl
+pub list_range-exact : {A N : Type 0} (count : N → ℕ) (left : ℕ → N) → ((n : N) → n ≡ left (count n))
+    → (x : List A N) → x ≡ list_by left (list_range count x)
+list_range-exact count left exact x = rw (← exact x.left) refl

@@ -1,16 +1,17 @@
 -- A string by the count of what stands before its zero: as the reader gives it, and as its view.
-use Prim.Native.Nat.{ℕ, zero, suc, ◌+◌, ◌-◌, ◌*◌, ◌<◌, ◌≤◌, min}
-use mathlib.Core.Path.{◌≡◌, refl, ap, ◌∙◌}
+use Prim.Native.Nat.{ℕ, zero, suc, ◌+◌, ◌-◌, ◌*◌, ◌<◌, ◌≤◌}
+use mathlib.Core.Path.{◌≡◌, refl, sym, ap, ◌∙◌}
 use mathlib.Core.Bool.{Bool, true, false}
 use mathlib.Core.List.{List, [], ◌∷◌}
 use native.Mathlib.Omega.{arith}
 use lib.ListN.{length, take, drop, length-drop}
 use lib.Seq.{length-take-le}
 use lib.Dec.{ltb, eqb}
-use borrow.Author.Tests.{lt-ltb, le-ltb, ltb-true, ltb-false, eq-eqb, ne_eqb}
+use borrow.Author.Tests.{lt-ltb, le-ltb, ltb-true, ltb-false}
+use Rattle.std.specs.Prelude.{Option, Some, None}
 use Rattle.format.specs.Format.{cstring, ucs2, got, refused, bind, pick, decode_cstring, decode_ucs2, decode, size}
 use Rattle.format.specs.View.{seen, missed, view, placed, place, units_of}
-use Rattle.search.specs.Zero.{unless, none, or_none, before_zero, units_before_zero, bytes_to_zero, units_to_zero}
+use Rattle.search.specs.Zero.{unless, only_if, before_zero, units_before_zero, bytes_to_zero, units_to_zero}
 use Rattle.search.proofs.Zero.{before-within}
 
 -- a string of bytes ends at its first zero, and without one is refused
@@ -115,70 +116,71 @@ module _ (s : List ℕ) (at m : ℕ) where
   unfolding view placed decode
   ucs2-none e h = rw (ucs2-unended (drop at s) (omega (arith, length-drop at s)))
 
--- by the count that the search answers: of what stands before the zero, or none where there is no zero
-bytes-cases : (P : Type 0) (t : List ℕ) {n : ℕ} → n ≡ bytes_to_zero t → (n ≡ before_zero t → before_zero t < length t → P)
-    → (n ≡ none → length t ≤ before_zero t → P) → P
-bytes-cases P t {n} e f g = by (ltb (before_zero t) (length t)) refl e
+-- by what the search answers: the count of what stands before the zero, or none where there is no zero
+bytes-cases : (P : Type 0) (t : List ℕ) (r : Option ℕ) → r ≡ bytes_to_zero t → (r ≡ Some (before_zero t) → before_zero t < length t → P)
+    → (r ≡ None → length t ≤ before_zero t → P) → P
+bytes-cases P t r e f g = by (ltb (before_zero t) (length t)) refl e
   where
-    by : (b : Bool) → ltb (before_zero t) (length t) ≡ b → n ≡ or_none b (before_zero t) → P
+    by : (b : Bool) → ltb (before_zero t) (length t) ≡ b → r ≡ only_if b (before_zero t) → P
     by true p q = f q (ltb-true (before_zero t) (length t) p)
     by false p q = g q (ltb-false (before_zero t) (length t) p)
 
-units-cases : (P : Type 0) (t : List ℕ) {n : ℕ} → n ≡ units_to_zero t → (n ≡ units_before_zero t → 2 * units_before_zero t + 1 < length t → P)
-    → (n ≡ none → length t ≤ 2 * units_before_zero t + 1 → P) → P
-units-cases P t {n} e f g = by (ltb (2 * units_before_zero t + 1) (length t)) refl e
+units-cases : (P : Type 0) (t : List ℕ) (r : Option ℕ) → r ≡ units_to_zero t → (r ≡ Some (units_before_zero t) → 2 * units_before_zero t + 1 < length t → P)
+    → (r ≡ None → length t ≤ 2 * units_before_zero t + 1 → P) → P
+units-cases P t r e f g = by (ltb (2 * units_before_zero t + 1) (length t)) refl e
   where
-    by : (b : Bool) → ltb (2 * units_before_zero t + 1) (length t) ≡ b → n ≡ or_none b (units_before_zero t) → P
+    by : (b : Bool) → ltb (2 * units_before_zero t + 1) (length t) ≡ b → r ≡ only_if b (units_before_zero t) → P
     by true p q = f q (ltb-true (2 * units_before_zero t + 1) (length t) p)
     by false p q = g q (ltb-false (2 * units_before_zero t + 1) (length t) p)
 
--- the number of a count that is none, and of one that is not
-number-none : {n k : ℕ} → k ≡ pick (eqb n none) 8 19 → n ≡ none → k ≡ 8
-number-none {n} f q = f ∙ rw (eq-eqb n none q) refl
+abbrev value-of : Option ℕ → ℕ
+value-of (Some n) = n
+value-of None = 0
 
-number-some : {n k : ℕ} → k ≡ pick (eqb n none) 8 19 → n < none → k ≡ 19
-number-some {n} f l = f ∙ rw (ne_eqb n none (λ z. absurd (omega arith))) refl
+abbrev found : Option ℕ → ℕ
+found (Some n) = 1
+found None = 0
 
--- w is the most that the count may be
-module _ (s : List ℕ) (at m : ℕ) {n w : ℕ} (fits : length s ≤ none) (l : w ≡ min m (none - 1)) where
-  pub cstring-refused : {k : ℕ} → n ≡ bytes_to_zero (drop at s) → w < n → k ≡ pick (eqb n none) 8 19 → missed k ≡ view (cstring m) s at
-  cstring-refused {k} e h f =
-      let d : length (drop at s) ≡ length s - at = length-drop at s in
-      bytes-cases (missed k ≡ view (cstring m) s at) (drop at s) e
-      (λ q t. rw (number-some {n = n} f (omega arith)) (cstring-over s at m q (omega arith) (omega arith)))
-      (λ q t. rw (number-none {n = n} f q) (cstring-none s at m {n = before_zero (drop at s)} refl (omega arith)))
+some-is : {a b : ℕ} → Some a ≡ Some b → a ≡ b
+some-is e = ap (λ (r : Option ℕ). value-of r) e
 
-  pub cstring-taken : n ≡ bytes_to_zero (drop at s) → n ≤ w → (seen (at, n) (at + n + 1) ≡ view (cstring m) s at) × (at + n + 1 ≤ length s)
-  cstring-taken e h =
-      let d : length (drop at s) ≡ length s - at = length-drop at s in
-      bytes-cases ((seen (at, n) (at + n + 1) ≡ view (cstring m) s at) × (at + n + 1 ≤ length s)) (drop at s) e
-      (λ q t. (cstring-there s at m q (omega arith) (omega arith), omega arith))
-      (λ q t. absurd (omega arith))
+zero-one : (a b : ℕ) → a ≡ b → a ≡ 1 → b ≡ 0 → ⊥
+zero-one a b e f g = omega (arith, e, f, g)
 
-  pub ucs2-refused : {k : ℕ} → n ≡ units_to_zero (drop at s) → w < n → k ≡ pick (eqb n none) 8 19 → missed k ≡ view (ucs2 m) s at
-  ucs2-refused {k} e h f =
-      let d : length (drop at s) ≡ length s - at = length-drop at s in
-      units-cases (missed k ≡ view (ucs2 m) s at) (drop at s) e
-      (λ q t. rw (number-some {n = n} f (omega arith)) (ucs2-over s at m q (omega arith) (omega arith)))
-      (λ q t. rw (number-none {n = n} f q) (ucs2-none s at m {n = units_before_zero (drop at s)} refl (omega arith)))
+some-none : {a : ℕ} → Some a ≡ None → ⊥
+some-none e = zero-one _ _ (ap (λ (r : Option ℕ). found r) e) refl refl
 
-  pub ucs2-taken : n ≡ units_to_zero (drop at s) → n ≤ w → (seen (at, n) (at + 2 * n + 2) ≡ view (ucs2 m) s at) × (at + 2 * n + 2 ≤ length s)
-  ucs2-taken e h =
-      let d : length (drop at s) ≡ length s - at = length-drop at s in
-      units-cases ((seen (at, n) (at + 2 * n + 2) ≡ view (ucs2 m) s at) × (at + 2 * n + 2 ≤ length s)) (drop at s) e
-      (λ q t. (ucs2-there s at m q (omega arith) (omega arith), omega arith))
-      (λ q t. absurd (omega arith))
+-- n is the count before a zero, and there is one
+pub bytes-ended : (t : List ℕ) {n : ℕ} → Some n ≡ bytes_to_zero t → (n ≡ before_zero t) × (before_zero t < length t)
+bytes-ended t {n} e = bytes-cases ((n ≡ before_zero t) × (before_zero t < length t)) t (Some n) e (λ q h. (some-is q, h)) (λ q h. absurd (some-none q))
 
--- n is the count before a zero unit
-pub units-ended : (s : List ℕ) (at : ℕ) {n : ℕ} → n ≡ units_to_zero (drop at s) → (n ≡ none → ⊥)
-    → (n ≡ units_before_zero (drop at s)) × (2 ≤ length s - (at + 2 * n))
-units-ended s at {n} e h =
-    let d : length (drop at s) ≡ length s - at = length-drop at s in
-    units-cases ((n ≡ units_before_zero (drop at s)) × (2 ≤ length s - (at + 2 * n))) (drop at s) e (λ q t. (q, omega arith)) (λ q t. absurd (h q))
+pub units-ended : (t : List ℕ) {n : ℕ} → Some n ≡ units_to_zero t → (n ≡ units_before_zero t) × (2 * units_before_zero t + 1 < length t)
+units-ended t {n} e =
+    units-cases ((n ≡ units_before_zero t) × (2 * units_before_zero t + 1 < length t)) t (Some n) e (λ q h. (some-is q, h)) (λ q h. absurd (some-none q))
 
 -- there is none
-pub units-unended : (s : List ℕ) (at : ℕ) {n : ℕ} → length s ≤ none → n ≡ units_to_zero (drop at s) → n ≡ none
-    → length (drop at s) < 2 * units_before_zero (drop at s) + 2
-units-unended s at {n} fits e h =
-    let d : length (drop at s) ≡ length s - at = length-drop at s in
-    units-cases (length (drop at s) < 2 * units_before_zero (drop at s) + 2) (drop at s) e (λ q t. absurd (omega arith)) (λ q t. omega arith)
+pub bytes-unended : (t : List ℕ) → None ≡ bytes_to_zero t → length t ≤ before_zero t
+bytes-unended t e = bytes-cases (length t ≤ before_zero t) t None e (λ q h. absurd (some-none (sym q))) (λ q h. h)
+
+pub units-unended : (t : List ℕ) → None ≡ units_to_zero t → length t ≤ 2 * units_before_zero t + 1
+units-unended t e = units-cases (length t ≤ 2 * units_before_zero t + 1) t None e (λ q h. absurd (some-none (sym q))) (λ q h. h)
+
+-- what a reader answers
+module _ (s : List ℕ) (at m : ℕ) where
+  pub cstring-8 : None ≡ bytes_to_zero (drop at s) → missed 8 ≡ view (cstring m) s at
+  cstring-8 e = cstring-none s at m {n = before_zero (drop at s)} refl (omega (arith, bytes-unended (drop at s) e, length-drop at s))
+
+  pub cstring-19 : {n : ℕ} → Some n ≡ bytes_to_zero (drop at s) → m < n → missed 19 ≡ view (cstring m) s at
+  cstring-19 e h = let b = bytes-ended (drop at s) e in cstring-over s at m b.0 (omega (arith, b.0, b.1, length-drop at s)) h
+
+  pub cstring-taken : {n : ℕ} → Some n ≡ bytes_to_zero (drop at s) → n ≤ m → seen (at, n) (at + n + 1) ≡ view (cstring m) s at
+  cstring-taken e h = let b = bytes-ended (drop at s) e in cstring-there s at m b.0 (omega (arith, b.0, b.1, length-drop at s)) h
+
+  pub ucs2-8 : None ≡ units_to_zero (drop at s) → missed 8 ≡ view (ucs2 m) s at
+  ucs2-8 e = ucs2-none s at m {n = units_before_zero (drop at s)} refl (omega (arith, units-unended (drop at s) e, length-drop at s))
+
+  pub ucs2-19 : {n : ℕ} → Some n ≡ units_to_zero (drop at s) → m < n → missed 19 ≡ view (ucs2 m) s at
+  ucs2-19 e h = let b = units-ended (drop at s) e in ucs2-over s at m b.0 (omega (arith, b.0, b.1, length-drop at s)) h
+
+  pub ucs2-taken : {n : ℕ} → Some n ≡ units_to_zero (drop at s) → n ≤ m → seen (at, n) (at + 2 * n + 2) ≡ view (ucs2 m) s at
+  ucs2-taken e h = let b = units-ended (drop at s) e in ucs2-there s at m b.0 (omega (arith, b.0, b.1, length-drop at s)) h

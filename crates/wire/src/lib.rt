@@ -1,17 +1,19 @@
 // The fields of a body, read at a cursor: numbers by value; strings, blocks and lists by their place in the body. Strings and lists of numbers copied out of it.
 #![tactic(auto)]
 
-ghost use Rattle.std.specs.Prelude.{◌+◌, ◌*◌, ◌-◌, ◌≤◌, min, ◌≡◌, ◌++◌, length, take, drop, leb, eqb};
-ghost use Rattle.format.specs.Format.{number, cstring, ucs2, list, pick};
-ghost use Rattle.search.specs.Zero.{none};
-ghost use Rattle.format.specs.View.{view, stepped, units_of};
-ghost use Rattle.format.specs.Passed.{room};
+ghost use Rattle.std.specs.Prelude.{ℕ, ◌+◌, ◌*◌, ◌-◌, ◌≤◌, ◌≡◌, ◌++◌, length, take, drop, ⊤, IfOk, IfSome, MatchOption};
+ghost use Rattle.format.specs.Format.{Format, number, cstring, ucs2, list};
+ghost use Rattle.format.specs.Format.{number as number_of_width};
+ghost use Rattle.protocol.specs.Kind.{name_limit};
+ghost use Rattle.format.specs.View.{View, view, stepped, units_of};
+ghost use Rattle.format.specs.Passed.{passed, room};
 ghost use Rattle.format.specs.Copy.{took, copy_cstring, copy_ucs2, copy_numbers};
-ghost use Rattle.wire.specs.Items.{items_at};
-ghost use Rattle.wire.specs.Says.{u8_says, u16_says, u32_says, cstring_says, cstring_number, ucs2_says, ucs2_number, block_says, skip_says};
-ghost use Rattle.wire.specs.Says.{u16_list_says, u32_list_says, items_says, u16_next_says, u32_next_says, copied_says};
+ghost use Rattle.refusal.specs.Says.{answer_says};
+ghost use Rattle.wire.specs.Says.{says, passed_says, next_says, number_view, cstring_range, ucs2_range, block_range, list_range};
 
-use search::{NONE, bytes_before_zero, first_zero, units_before_zero};
+use refusal::Refusal;
+use search::{bytes_before_zero, units_before_zero};
+use std::marker::PhantomData;
 
 // The bytes or units of the longest name: what the rack's display holds.
 pub const NAME_LIMIT: usize = 255;
@@ -44,382 +46,314 @@ pub struct Block {
     pub len: usize,
 }
 
-// What is left of a list: of u16, of u32, of items of one width that its reader knows.
-#[derive(Clone, Copy)]
-pub struct U16List {
-    pub at: usize,
-    pub left: u16,
+// ---- lists
+
+// The number of items of a list: its field in front of them, then how many are left.
+pub trait Count: Copy {
+    ghost width: { ℕ };
+
+    ghost number: { Self → ℕ };
+
+    fn read(body: &[u8], c: Cursor) -> Result<(Self, Cursor), Refusal>
+        ensures { says number result ≡ view (number_of_width width) body.now c.at };
+
+    fn items(self) -> usize
+        ensures { result ≡ number self };
+
+    // One less, or none.
+    fn less(self) -> Option<Self>
+        ensures { MatchOption result (number self ≡ 0) (λ n. number self ≡ number n + 1) };
 }
 
-#[derive(Clone, Copy)]
-pub struct U32List {
-    pub at: usize,
-    pub left: u16,
-}
+// What a list holds: items of one format.
+pub trait Item: Copy {
+    ghost format: { Format };
 
-#[derive(Clone, Copy)]
-pub struct Items {
-    pub at: usize,
-    pub left: u16,
-}
+    ghost item_view: { Self → View format };
 
-// ---- answers: what was read and the cursor behind it, or the refusal; `Short` is 7, a string's 8 or 19
+    // What else is known of an item that was read.
+    ghost known: { Self → Type 0 } = { λ _. ⊤ };
 
-#[derive(Clone, Copy)]
-pub enum U8Read {
-    Read(u8, Cursor),
-    Short,
-}
+    fn read(body: &[u8], c: Cursor) -> Result<(Self, Cursor), Refusal>
+        ensures fields { says item_view result ≡ view format body.now c.at }
+        ensures rest { IfOk result (λ x. known x.0) };
 
-#[derive(Clone, Copy)]
-pub enum U16Read {
-    Read(u16, Cursor),
-    Short,
-}
-
-#[derive(Clone, Copy)]
-pub enum U32Read {
-    Read(u32, Cursor),
-    Short,
-}
-
-#[derive(Clone, Copy)]
-pub enum CStringRead {
-    Read(CString, Cursor),
-    Refused(u8),
-}
-
-#[derive(Clone, Copy)]
-pub enum Ucs2Read {
-    Read(Ucs2, Cursor),
-    Refused(u8),
-}
-
-#[derive(Clone, Copy)]
-pub enum BlockRead {
-    Read(Block, Cursor),
-    Short,
-}
-
-#[derive(Clone, Copy)]
-pub enum SkipRead {
-    Past(Cursor),
-    Short,
-}
-
-#[derive(Clone, Copy)]
-pub enum U16ListRead {
-    Read(U16List, Cursor),
-    Short,
-}
-
-#[derive(Clone, Copy)]
-pub enum U32ListRead {
-    Read(U32List, Cursor),
-    Short,
-}
-
-#[derive(Clone, Copy)]
-pub enum ItemsRead {
-    Read(Items, Cursor),
-    Short,
-}
-
-// A step through a list: an item and what is left behind it. A list that was read meets no refusal, a made-up one may.
-#[derive(Clone, Copy)]
-pub enum U16Next {
-    Item(u16, U16List),
-    Done,
-    Refused(u8),
-}
-
-#[derive(Clone, Copy)]
-pub enum U32Next {
-    Item(u32, U32List),
-    Done,
-    Refused(u8),
-}
-
-// The length of a string or a list copied, or the number of the refusal.
-#[derive(Clone, Copy)]
-pub enum Copied {
-    Copied(usize),
-    Refused(u8),
-}
-
-// ---- helpers
-
-// The bytes of a body from an offset on; none past its end.
-fn left_from(body: &[u8], at: usize) -> usize
-    ensures { result ≡ length body.now - at }
-{
-    if at < body.len() { body.len() - at } else { 0 }
-}
-
-// The most that a string's count may be. A count of a string without an end, NONE, is above it whatever the limit: so one test tells both.
-fn longest(limit: usize) -> usize
-    ensures { result ≡ min limit (none - 1) }
-{
-    if limit < NONE { limit } else { NONE - 1 }
-}
-
-// The number of a string that has no end, or a count above its limit.
-fn refusal(count: usize) -> u8
-    ensures { result ≡ pick (eqb count none) 8 19 }
-{
-    if count == NONE { 8 } else { 19 }
-}
-
-// Two bytes as a number, the low one first.
-fn join_2(a: u8, b: u8) -> u16
-    ensures { result ≡ a + 256 * b }
-{
-    (a as u16) + 256 * (b as u16)
-}
-
-pub fn join_4(a: u8, b: u8, c: u8, d: u8) -> u32
-    ensures { result ≡ a + 256 * b + 65536 * c + 16777216 * d }
-{
-    (a as u32) + 256 * (b as u32) + 65536 * (c as u32) + 16777216 * (d as u32)
-}
-
-// Whether so many items of a width take at most so many bytes. A product of a wide item could overflow.
-fn fit(count: u16, width: usize, bytes: usize) -> bool
-    ensures { result ≡ leb (count * width) bytes }
-{
-    let n = count as usize;
-    if width <= 65536 {
-        return n * width <= bytes;
-    }
-    n <= bytes / width
-}
-
-// ---- the number of a string's refusal; 0 if it was read
-
-impl CStringRead {
-    pub fn number(self) -> u8
-        ensures { result ≡ cstring_number self }
+    // So many of them passed over.
+    fn pass(body: &[u8], c: Cursor, n: usize) -> Result<Cursor, Refusal>
+        ensures { passed_says result ≡ passed format body.now c.at n }
     {
-        match self {
-            CStringRead::Read(_, _) => 0,
-            CStringRead::Refused(n) => n,
+        let mut end = c;
+        for _ in 0..n {
+            let (_, behind) = Self::read(body, end)?;
+            end = behind;
         }
+        Ok(end)
     }
 }
 
-impl Ucs2Read {
-    pub fn number(self) -> u8
-        ensures { result ≡ ucs2_number self }
+// What is left of a list: where its next item starts, and how many there are.
+#[derive(Clone, Copy)]
+pub struct List<T, N> {
+    pub at: usize,
+    pub left: N,
+    of: PhantomData<T>,
+}
+
+impl<T: Item, N: Count> List<T, N> {
+    pub fn new(at: usize, left: N) -> List<T, N>
+        ensures place { result.at ≡ at }
+        ensures count { result.left ≡ left }
     {
-        match self {
-            Ucs2Read::Read(_, _) => 0,
-            Ucs2Read::Refused(n) => n,
+        List {
+            at,
+            left,
+            of: PhantomData,
         }
+    }
+
+    // A count and as many items, each of which reads.
+    pub fn read(body: &[u8], c: Cursor) -> Result<(List<T, N>, Cursor), Refusal>
+        ensures { says (list_range N.number) result ≡ view (list N.width T.format) body.now c.at }
+    {
+        let (left, c) = N::read(body, c)?;
+        let end = T::pass(body, c, left.items())?;
+        Ok((List::new(c.at, left), end))
+    }
+
+    // The next item and what is left behind it. A list that was read meets no refusal, a made-up one may.
+    pub fn next(self, body: &[u8]) -> Result<Option<(T, List<T, N>)>, Refusal>
+        ensures fields { next_says T.item_view N.number result ≡ stepped T.format body.now self.at (N.number self.left) }
+        ensures rest { IfOk result (λ o. IfSome o (λ x. T.known x.0)) }
+    {
+        let Some(left) = self.left.less() else {
+            return Ok(None);
+        };
+        let (x, c) = T::read(body, Cursor { at: self.at })?;
+        Ok(Some((x, List::new(c.at, left))))
     }
 }
 
 // ---- reading
 
 impl Cursor {
-    pub fn u8(self, body: &[u8]) -> U8Read
-        ensures { u8_says result ≡ view (number 1) body.now self.at }
+    // A body's first byte.
+    pub const START: Cursor = Cursor { at: 0 };
+
+    pub fn u8(self, body: &[u8]) -> Result<(u8, Cursor), Refusal>
+        ensures { says number_view result ≡ view (number 1) body.now self.at }
     {
         let at = self.at;
         if at < body.len() {
-            return U8Read::Read(body[at], Cursor { at: at + 1 });
+            return Ok((body[at], Cursor { at: at + 1 }));
         }
-        U8Read::Short
+        Err(Refusal::ShortBody)
     }
 
-    pub fn u16(self, body: &[u8]) -> U16Read
-        ensures { u16_says result ≡ view (number 2) body.now self.at }
+    pub fn u16(self, body: &[u8]) -> Result<(u16, Cursor), Refusal>
+        ensures { says number_view result ≡ view (number 2) body.now self.at }
     {
         let at = self.at;
-        if 2 <= left_from(body, at) {
-            return U16Read::Read(join_2(body[at], body[at + 1]), Cursor { at: at + 2 });
+        if 2 <= body.len().saturating_sub(at) {
+            let n = u16::from_le_bytes([body[at], body[at + 1]]);
+            return Ok((n, Cursor { at: at + 2 }));
         }
-        U16Read::Short
+        Err(Refusal::ShortBody)
     }
 
-    pub fn u32(self, body: &[u8]) -> U32Read
-        ensures { u32_says result ≡ view (number 4) body.now self.at }
+    pub fn u32(self, body: &[u8]) -> Result<(u32, Cursor), Refusal>
+        ensures { says number_view result ≡ view (number 4) body.now self.at }
     {
         let at = self.at;
-        if 4 <= left_from(body, at) {
-            let n = join_4(body[at], body[at + 1], body[at + 2], body[at + 3]);
-            return U32Read::Read(n, Cursor { at: at + 4 });
+        if 4 <= body.len().saturating_sub(at) {
+            let n = u32::from_le_bytes([body[at], body[at + 1], body[at + 2], body[at + 3]]);
+            return Ok((n, Cursor { at: at + 4 }));
         }
-        U32Read::Short
+        Err(Refusal::ShortBody)
     }
 
     // Bytes up to a zero byte, at most `limit` of them.
-    pub fn cstring(self, body: &[u8], limit: usize) -> CStringRead
-        ensures { cstring_says result ≡ view (cstring limit) body.now self.at }
+    #[inline(always)]
+    pub fn cstring(self, body: &[u8], limit: usize) -> Result<(CString, Cursor), Refusal>
+        ensures { says cstring_range result ≡ view (cstring limit) body.now self.at }
     {
         let at = self.at;
-        let len = bytes_before_zero(body, at);
-        if longest(limit) < len {
-            return CStringRead::Refused(refusal(len));
+        let Some(len) = bytes_before_zero(body, at) else {
+            return Err(Refusal::NoZero); // no zero byte
+        };
+        if limit < len {
+            return Err(Refusal::OverLimit);
         }
-        CStringRead::Read(CString { start: at, len }, Cursor { at: at + len + 1 })
+        Ok((CString { start: at, len }, Cursor { at: at + len + 1 }))
     }
 
     // 16-bit units up to a zero unit, at most `limit` of them; a lone last byte is no unit.
-    pub fn ucs2(self, body: &[u8], limit: usize) -> Ucs2Read
-        ensures { ucs2_says result ≡ view (ucs2 limit) body.now self.at }
+    pub fn ucs2(self, body: &[u8], limit: usize) -> Result<(Ucs2, Cursor), Refusal>
+        ensures { says ucs2_range result ≡ view (ucs2 limit) body.now self.at }
     {
         let at = self.at;
-        let n = units_before_zero(body, at);
-        if longest(limit) < n {
-            return Ucs2Read::Refused(refusal(n));
+        let Some(n) = units_before_zero(body, at) else {
+            return Err(Refusal::NoZero);
+        };
+        if limit < n {
+            return Err(Refusal::OverLimit);
         }
-        Ucs2Read::Read(Ucs2 { start: at, len: n }, Cursor { at: at + 2 * n + 2 })
+        Ok((Ucs2 { start: at, len: n }, Cursor { at: at + 2 * n + 2 }))
     }
 
     // n bytes passed over.
-    pub fn skip(self, body: &[u8], n: usize) -> SkipRead
-        ensures { skip_says result ≡ room body.now self.at n }
+    pub fn skip(self, body: &[u8], n: usize) -> Result<Cursor, Refusal>
+        ensures { passed_says result ≡ room body.now self.at n }
     {
         let at = self.at;
-        if n <= left_from(body, at) {
-            return SkipRead::Past(Cursor { at: at + n });
+        if n <= body.len().saturating_sub(at) {
+            return Ok(Cursor { at: at + n });
         }
-        SkipRead::Short
+        Err(Refusal::ShortBody)
     }
 
-    // A count and as many items of `width` bytes, of which none is looked at.
-    pub fn items(self, body: &[u8], width: usize) -> ItemsRead
-        ensures { items_says result ≡ items_at width body.now self.at }
+    // n items of `width` bytes passed over, of which none is looked at.
+    pub fn skip_items(self, body: &[u8], n: usize, width: usize) -> Result<Cursor, Refusal>
+        ensures { passed_says result ≡ room body.now self.at (n * width) }
     {
-        let U16Read::Read(count, c) = self.u16(body) else {
-            return ItemsRead::Short;
+        let Some(len) = n.checked_mul(width) else {
+            return Err(Refusal::ShortBody);
         };
-        let at = c.at;
-        if fit(count, width, left_from(body, at)) {
-            let end = at + (count as usize) * width;
-            return ItemsRead::Read(Items { at, left: count }, Cursor { at: end });
-        }
-        ItemsRead::Short
+        self.skip(body, len)
     }
 
     // A count and as many bytes.
-    pub fn block(self, body: &[u8]) -> BlockRead
-        ensures { block_says result ≡ view (list 2 (number 1)) body.now self.at }
+    pub fn block(self, body: &[u8]) -> Result<(Block, Cursor), Refusal>
+        ensures { says block_range result ≡ view (list 2 (number 1)) body.now self.at }
     {
-        let ItemsRead::Read(x, c) = self.items(body, 1) else {
-            return BlockRead::Short;
-        };
+        let (x, c) = List::<u8, u16>::read(body, self)?;
         let len = x.left as usize;
-        BlockRead::Read(Block { start: x.at, len }, c)
-    }
-
-    pub fn u16_list(self, body: &[u8]) -> U16ListRead
-        ensures { u16_list_says result ≡ view (list 2 (number 2)) body.now self.at }
-    {
-        let ItemsRead::Read(x, c) = self.items(body, 2) else {
-            return U16ListRead::Short;
-        };
-        U16ListRead::Read(
-            U16List {
-                at: x.at,
-                left: x.left,
-            },
-            c,
-        )
-    }
-
-    pub fn u32_list(self, body: &[u8]) -> U32ListRead
-        ensures { u32_list_says result ≡ view (list 2 (number 4)) body.now self.at }
-    {
-        let ItemsRead::Read(x, c) = self.items(body, 4) else {
-            return U32ListRead::Short;
-        };
-        U32ListRead::Read(
-            U32List {
-                at: x.at,
-                left: x.left,
-            },
-            c,
-        )
+        Ok((Block { start: x.at, len }, c))
     }
 }
 
-// ---- stepping through a list, and copying one of numbers whole
+// ---- what counts, and what a list of no layer's own holds
 
-impl U16List {
-    pub fn next(self, body: &[u8]) -> U16Next
-        ensures { u16_next_says result ≡ stepped (number 2) body.now self.at self.left }
-    {
-        let left = self.left;
-        if left == 0 {
-            return U16Next::Done;
-        }
-        let c = Cursor { at: self.at };
-        let U16Read::Read(n, c) = c.u16(body) else {
-            return U16Next::Refused(7);
-        };
-        U16Next::Item(
-            n,
-            U16List {
-                at: c.at,
-                left: left - 1,
-            },
-        )
+impl Count for u8 {
+    ghost width = { 1 };
+
+    ghost number = { λ n. n };
+
+    fn read(body: &[u8], c: Cursor) -> Result<(u8, Cursor), Refusal> {
+        c.u8(body)
     }
 
+    fn items(self) -> usize {
+        self as usize
+    }
+
+    fn less(self) -> Option<u8> {
+        self.checked_sub(1)
+    }
+}
+
+impl Count for u16 {
+    ghost width = { 2 };
+
+    ghost number = { λ n. n };
+
+    fn read(body: &[u8], c: Cursor) -> Result<(u16, Cursor), Refusal> {
+        c.u16(body)
+    }
+
+    fn items(self) -> usize {
+        self as usize
+    }
+
+    fn less(self) -> Option<u16> {
+        self.checked_sub(1)
+    }
+}
+
+impl Item for u8 {
+    ghost format = { number 1 };
+
+    ghost item_view = { λ n. n };
+
+    fn read(body: &[u8], c: Cursor) -> Result<(u8, Cursor), Refusal> {
+        c.u8(body)
+    }
+
+    fn pass(body: &[u8], c: Cursor, n: usize) -> Result<Cursor, Refusal> {
+        c.skip_items(body, n, 1)
+    }
+}
+
+impl Item for u16 {
+    ghost format = { number 2 };
+
+    ghost item_view = { λ n. n };
+
+    fn read(body: &[u8], c: Cursor) -> Result<(u16, Cursor), Refusal> {
+        c.u16(body)
+    }
+
+    fn pass(body: &[u8], c: Cursor, n: usize) -> Result<Cursor, Refusal> {
+        c.skip_items(body, n, 2)
+    }
+}
+
+impl Item for u32 {
+    ghost format = { number 4 };
+
+    ghost item_view = { λ n. n };
+
+    fn read(body: &[u8], c: Cursor) -> Result<(u32, Cursor), Refusal> {
+        c.u32(body)
+    }
+
+    fn pass(body: &[u8], c: Cursor, n: usize) -> Result<Cursor, Refusal> {
+        c.skip_items(body, n, 4)
+    }
+}
+
+// A name.
+impl Item for Ucs2 {
+    ghost format = { ucs2 name_limit };
+
+    ghost item_view = { ucs2_range };
+
+    fn read(body: &[u8], c: Cursor) -> Result<(Ucs2, Cursor), Refusal> {
+        c.ucs2(body, NAME_LIMIT)
+    }
+}
+
+// ---- a list of numbers copied whole
+
+impl List<u16, u16> {
     // What is left, all at once, into the first numbers of `out`.
-    pub fn copy(self, body: &[u8], out: &mut [u16]) -> Copied
-        ensures { (copied_says result, out.new) ≡ copy_numbers 2 body.now self.at self.left out.old }
+    pub fn copy(self, body: &[u8], out: &mut [u16]) -> Result<usize, Refusal>
+        ensures { (answer_says result, out.new) ≡ copy_numbers 2 body.now self.at self.left out.old }
     {
-        let at = self.at;
         let left = self.left as usize;
-        let rest = left_from(body, at);
-        if rest < 2 * left {
-            return Copied::Refused(7); // the body ends in the list
+        if body.len().saturating_sub(self.at) < 2 * left {
+            return Err(Refusal::ShortBody); // the body ends in the list
         }
         if out.len() < left {
-            return Copied::Refused(13); // fewer numbers than the list has
+            return Err(Refusal::ShortOutput); // fewer numbers than the list has
         }
-        copy_units(body, at, left, out);
-        Copied::Copied(left)
+        copy_units(body, self.at, left, out);
+        Ok(left)
     }
 }
 
-impl U32List {
-    pub fn next(self, body: &[u8]) -> U32Next
-        ensures { u32_next_says result ≡ stepped (number 4) body.now self.at self.left }
+impl List<u32, u16> {
+    pub fn copy(self, body: &[u8], out: &mut [u32]) -> Result<usize, Refusal>
+        ensures { (answer_says result, out.new) ≡ copy_numbers 4 body.now self.at self.left out.old }
     {
-        let left = self.left;
-        if left == 0 {
-            return U32Next::Done;
-        }
-        let c = Cursor { at: self.at };
-        let U32Read::Read(n, c) = c.u32(body) else {
-            return U32Next::Refused(7);
-        };
-        U32Next::Item(
-            n,
-            U32List {
-                at: c.at,
-                left: left - 1,
-            },
-        )
-    }
-
-    pub fn copy(self, body: &[u8], out: &mut [u32]) -> Copied
-        ensures { (copied_says result, out.new) ≡ copy_numbers 4 body.now self.at self.left out.old }
-    {
-        let at = self.at;
         let left = self.left as usize;
-        let rest = left_from(body, at);
-        if rest < 4 * left {
-            return Copied::Refused(7);
+        if body.len().saturating_sub(self.at) < 4 * left {
+            return Err(Refusal::ShortBody);
         }
         if out.len() < left {
-            return Copied::Refused(13);
+            return Err(Refusal::ShortOutput);
         }
-        copy_u32s(body, at, left, out);
-        Copied::Copied(left)
+        copy_u32s(body, self.at, left, out);
+        Ok(left)
     }
 }
 
@@ -460,10 +394,8 @@ fn copy_bytes(body: &[u8], start: usize, len: usize, out: &mut [u8])
     requires { (start + len ≤ length body.now) × (len ≤ length out.old) }
     ensures { out.new ≡ take len (drop start body.now) ++ drop len out.old }
 {
-    let mut i = 0;
-    while i < len {
+    for i in 0..len {
         out[i] = body[start + i];
-        i += 1;
     }
 }
 
@@ -471,11 +403,9 @@ fn copy_units(body: &[u8], start: usize, n: usize, out: &mut [u16])
     requires { (2 * n ≤ length body.now - start) × (n ≤ length out.old) }
     ensures { out.new ≡ units_of n (drop start body.now) ++ drop n out.old }
 {
-    let mut i = 0;
-    while i < n {
+    for i in 0..n {
         let k = start + 2 * i;
-        out[i] = join_2(body[k], body[k + 1]);
-        i += 1;
+        out[i] = u16::from_le_bytes([body[k], body[k + 1]]);
     }
 }
 
@@ -483,44 +413,37 @@ fn copy_u32s(body: &[u8], start: usize, n: usize, out: &mut [u32])
     requires { (4 * n ≤ length body.now - start) × (n ≤ length out.old) }
     ensures { (took n, out.new) ≡ copy_numbers 4 body.now start n out.old }
 {
-    let mut i = 0;
-    while i < n {
+    for i in 0..n {
         let k = start + 4 * i;
-        out[i] = join_4(body[k], body[k + 1], body[k + 2], body[k + 3]);
-        i += 1;
+        out[i] = u32::from_le_bytes([body[k], body[k + 1], body[k + 2], body[k + 3]]);
     }
 }
 
 // The string that starts where `string` does, without its zero, into the first bytes of `out`; its end is searched in the body given. Its
 // limit is the body's length, which no string in it exceeds: so none is tested.
-pub fn copy_cstring(body: &[u8], string: CString, out: &mut [u8]) -> Copied
-    ensures { (copied_says result, out.new) ≡ copy_cstring body.now string.start out.old }
+pub fn copy_cstring(body: &[u8], string: CString, out: &mut [u8]) -> Result<usize, Refusal>
+    ensures { (answer_says result, out.new) ≡ copy_cstring body.now string.start out.old }
 {
-    let start = string.start;
-    let end = first_zero(body, start);
-    let len = end - start;
-    if body.len() <= end {
-        return Copied::Refused(8); // no zero byte
-    }
+    let Some(len) = bytes_before_zero(body, string.start) else {
+        return Err(Refusal::NoZero);
+    };
     if out.len() < len {
-        return Copied::Refused(13); // fewer bytes than the string has
+        return Err(Refusal::ShortOutput); // fewer bytes than the string has
     }
-    copy_bytes(body, start, len, out);
-    Copied::Copied(len)
+    copy_bytes(body, string.start, len, out);
+    Ok(len)
 }
 
 // The same of units.
-pub fn copy_ucs2(body: &[u8], string: Ucs2, out: &mut [u16]) -> Copied
-    ensures { (copied_says result, out.new) ≡ copy_ucs2 body.now string.start out.old }
+pub fn copy_ucs2(body: &[u8], string: Ucs2, out: &mut [u16]) -> Result<usize, Refusal>
+    ensures { (answer_says result, out.new) ≡ copy_ucs2 body.now string.start out.old }
 {
-    let start = string.start;
-    let n = units_before_zero(body, start);
-    if n == NONE {
-        return Copied::Refused(8); // no zero unit
-    }
+    let Some(n) = units_before_zero(body, string.start) else {
+        return Err(Refusal::NoZero); // no zero unit
+    };
     if out.len() < n {
-        return Copied::Refused(13); // fewer units than the string has
+        return Err(Refusal::ShortOutput); // fewer units than the string has
     }
-    copy_units(body, start, n, out);
-    Copied::Copied(n)
+    copy_units(body, string.start, n, out);
+    Ok(n)
 }

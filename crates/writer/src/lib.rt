@@ -2,44 +2,39 @@
 #![tactic(auto)]
 
 ghost use Rattle.std.specs.Prelude.{◌≡◌, ◌&&◌, map};
+ghost use Rattle.format.specs.Format.{pick};
 ghost use Rattle.protocol.specs.Kind as kinds;
+ghost use Rattle.refusal.specs.Says.{number_says};
 ghost use Rattle.writing.specs.Call as part;
 ghost use Rattle.writing.specs.Call.{opens, give, closes, body, laser_feed_list, laser_feed_frame, fixture_list, fixture, identifier};
-ghost use Rattle.writing.specs.Writer.{apply, idle, is_idle, is_body, is_item, is_identifier, is_data, is_close, behind_headers};
-ghost use Rattle.chls.specs.Levels.{level_value};
+ghost use Rattle.writing.specs.Writer.{apply, idle, behind_headers};
 ghost use Rattle.caex.specs.Codes.{message_type_code};
 ghost use Rattle.caex.specs.Write.{point_value};
 ghost use Rattle.fixture.specs.Codes.{identifier_type_code};
 ghost use Rattle.fixture.specs.Write.{data_value};
+ghost use Rattle.sdmx.specs.Says.{level_value};
 ghost use Rattle.turns.specs.Says.{kind_is, turn_is};
-ghost use Rattle.writer.specs.Says.{state_of, written_says, state_after, chls_place, chls_number, chls_state};
+ghost use Rattle.writer.specs.Says.{state_of, written_says};
 
 use caex::{
     EnterShow, FixtureList, FixtureListMessageType, FixtureRemove, LaserFeedControl,
     LaserFeedFrame, LaserFeedList, LaserPoint,
 };
-use chls::write_to_bytes;
 use finf::{Fram, SFra};
 use fixture::{Fixture, FixtureData, Identifier, IdentifierType};
 use fptc::{Ptch, SPtc, UPtc};
 use fsel::{DeSe, Sele};
 use pinf::{PLoc, PNam};
-use put::{LIMIT, Put, put_number_4, weigh};
-use sdmx::{Capa, ChBk, ChannelLevel, Sxus, UNam};
-use turns::{Kind, Turn, both, write_headers};
+use put::{Faults, put_number_4};
+use refusal::Refusal;
+use sdmx::{Capa, ChBk, ChLs, ChannelLevel, Sxus, UNam};
+use turns::{Kind, Turn, write_headers};
 
-// Whose turn it is, and how many bytes of the packet stand.
-#[derive(Clone, Copy)]
+// Whose turn it is, and how many bytes of the packet stand. A call answers the state for the next one; after a refusal it stays as it was.
+#[derive(Clone, Copy, PartialEq, Eq, Debug)]
 pub struct Writer {
     pub turn: Turn,
     pub at: usize,
-}
-
-// What a call answers: 0 or the number of its refusal, and the state for the next call.
-#[derive(Clone, Copy)]
-pub struct Written {
-    pub number: u8,
-    pub writer: Writer,
 }
 
 impl Writer {
@@ -52,175 +47,122 @@ impl Writer {
         }
     }
 
-    // ---- whose turn it is
-
-    fn is_due(self, in_turn: bool) -> bool
-        ensures { result ≡ (in_turn && behind_headers (turn_is self.turn) self.at) }
+    // Whether a call in turn has its headers before it.
+    fn due(self, in_turn: bool) -> Result<(), Refusal>
+        ensures { number_says result ≡ pick (in_turn && behind_headers (turn_is self.turn) self.at) 0 14 }
     {
-        let turn = self.turn;
-        both(in_turn, turn.behind_headers(self.at))
-    }
-
-    fn open_is_due(self) -> bool
-        ensures { result ≡ (is_idle (turn_is self.turn) && behind_headers (turn_is self.turn) self.at) }
-    {
-        let turn = self.turn;
-        self.is_due(turn.is_idle())
-    }
-
-    fn body_is_due(self, kind: Kind) -> bool
-        ensures { result ≡ (is_body (kind_is kind) (turn_is self.turn) && behind_headers (turn_is self.turn) self.at) }
-    {
-        let turn = self.turn;
-        self.is_due(turn.is_body(kind))
-    }
-
-    fn item_is_due(self, kind: Kind) -> bool
-        ensures { result ≡ (is_item (kind_is kind) (turn_is self.turn) && behind_headers (turn_is self.turn) self.at) }
-    {
-        let turn = self.turn;
-        self.is_due(turn.is_item(kind))
-    }
-
-    fn identifier_is_due(self) -> bool
-        ensures { result ≡ (is_identifier (turn_is self.turn) && behind_headers (turn_is self.turn) self.at) }
-    {
-        let turn = self.turn;
-        self.is_due(turn.is_identifier())
-    }
-
-    fn data_is_due(self) -> bool
-        ensures { result ≡ (is_data (turn_is self.turn) && behind_headers (turn_is self.turn) self.at) }
-    {
-        let turn = self.turn;
-        self.is_due(turn.is_data())
-    }
-
-    fn close_is_due(self) -> bool
-        ensures { result ≡ (is_close (turn_is self.turn) && behind_headers (turn_is self.turn) self.at) }
-    {
-        let turn = self.turn;
-        self.is_due(turn.is_close())
-    }
-
-    // ---- what a call answers
-
-    fn out_of_turn(self) -> Written
-        ensures { (result.number ≡ 14) × (state_of result.writer ≡ state_of self) }
-    {
-        Written {
-            number: 14,
-            writer: self,
-        }
-    }
-
-    // Where the write was taken, the next turn behind it; else the state as it is.
-    fn after(self, put: Put, next: Turn) -> Written
-        ensures { (result.number ≡ put.number) × (state_of result.writer ≡ state_after put.number put.at (turn_is next) (state_of self)) }
-    {
-        if put.number != 0 {
-            return Written {
-                number: put.number,
-                writer: self,
-            };
-        }
-        Written {
-            number: 0,
-            writer: Writer {
-                turn: next,
-                at: put.at,
-            },
+        if in_turn && self.turn.behind_headers(self.at) {
+            Ok(())
+        } else {
+            Err(Refusal::OutOfTurn)
         }
     }
 
     // ---- open and close
 
     // The headers at the output's first byte, the size field 0. The content hint is written in FPTC alone.
-    pub fn open(self, out: &mut [u8], kind: Kind, request_index: u16, content_hint: u32) -> Written
-        ensures { written_says result out.new ≡ apply (opens (kind_is kind) request_index content_hint) (state_of self) out.old }
+    pub fn open(
+        self,
+        out: &mut [u8],
+        kind: Kind,
+        request_index: u16,
+        content_hint: u32,
+    ) -> Result<Writer, Refusal>
+        ensures { written_says self result out.new ≡ apply (opens (kind_is kind) request_index content_hint) (state_of self) out.old }
     {
-        if self.open_is_due() {
-            let put = write_headers(out, kind, request_index, content_hint);
-            return self.after(put, Turn::Body(kind));
-        }
-        self.out_of_turn()
+        self.due(self.turn.is_idle())?;
+        let at = write_headers(out, kind, request_index, content_hint)?;
+        Ok(Writer {
+            turn: Turn::Body(kind),
+            at,
+        })
     }
 
     // Fills the size field.
-    pub fn close(self, out: &mut [u8]) -> Written
-        ensures { written_says result out.new ≡ apply closes (state_of self) out.old }
+    pub fn close(self, out: &mut [u8]) -> Result<Writer, Refusal>
+        ensures { written_says self result out.new ≡ apply closes (state_of self) out.old }
     {
-        if self.close_is_due() {
-            let at = self.at;
-            let number = weigh(false, false, false, at, 0, out.len());
-            if number != 0 {
-                return Written {
-                    number,
-                    writer: self,
-                };
-            }
-            put_number_4(out, 8, at);
-            return Written {
-                number: 0,
-                writer: Writer {
-                    turn: Turn::Idle,
-                    at,
-                },
-            };
-        }
-        self.out_of_turn()
+        self.due(self.turn.is_close())?;
+        Faults::NONE.weigh(self.at, 0, out.len())?;
+        put_number_4(out, 8, self.at);
+        Ok(Writer {
+            turn: Turn::Idle,
+            ..self
+        })
     }
 
     // ---- flat bodies
 
-    pub fn enter_show(self, out: &mut [u8], name: &[u16]) -> Written
-        ensures { written_says result out.new ≡ apply (give (body kinds.EnterShow name.now)) (state_of self) out.old }
+    pub fn enter_show(self, out: &mut [u8], name: &[u16]) -> Result<Writer, Refusal>
+        ensures { written_says self result out.new ≡ apply (give (body kinds.EnterShow name.now)) (state_of self) out.old }
     {
-        if self.body_is_due(Kind::EnterShow) {
-            let put = EnterShow::write_to_bytes(out, self.at, name);
-            return self.after(put, Turn::Items(Kind::EnterShow, 0));
-        }
-        self.out_of_turn()
+        self.due(self.turn.is_body(Kind::EnterShow))?;
+        let at = EnterShow::write_to_bytes(out, self.at, name)?;
+        Ok(Writer {
+            turn: Turn::Items(Kind::EnterShow, 0),
+            at,
+        })
     }
 
-    pub fn fixture_remove(self, out: &mut [u8], fixture_identifiers: &[u32]) -> Written
-        ensures { written_says result out.new ≡ apply (give (body kinds.FixtureRemove fixture_identifiers.now)) (state_of self) out.old }
+    pub fn fixture_remove(
+        self,
+        out: &mut [u8],
+        fixture_identifiers: &[u32],
+    ) -> Result<Writer, Refusal>
+        ensures { written_says self result out.new
+            ≡ apply (give (body kinds.FixtureRemove fixture_identifiers.now)) (state_of self) out.old }
     {
-        if self.body_is_due(Kind::FixtureRemove) {
-            let put = FixtureRemove::write_to_bytes(out, self.at, fixture_identifiers);
-            return self.after(put, Turn::Items(Kind::FixtureRemove, 0));
-        }
-        self.out_of_turn()
+        self.due(self.turn.is_body(Kind::FixtureRemove))?;
+        let at = FixtureRemove::write_to_bytes(out, self.at, fixture_identifiers)?;
+        Ok(Writer {
+            turn: Turn::Items(Kind::FixtureRemove, 0),
+            at,
+        })
     }
 
-    pub fn laser_feed_control(self, out: &mut [u8], feed_index: u8, frame_rate: u8) -> Written
-        ensures { written_says result out.new ≡ apply (give (body kinds.LaserFeedControl (feed_index, frame_rate))) (state_of self) out.old }
+    pub fn laser_feed_control(
+        self,
+        out: &mut [u8],
+        feed_index: u8,
+        frame_rate: u8,
+    ) -> Result<Writer, Refusal>
+        ensures { written_says self result out.new
+            ≡ apply (give (body kinds.LaserFeedControl (feed_index, frame_rate))) (state_of self) out.old }
     {
-        if self.body_is_due(Kind::LaserFeedControl) {
-            let put = LaserFeedControl::write_to_bytes(out, self.at, feed_index, frame_rate);
-            return self.after(put, Turn::Items(Kind::LaserFeedControl, 0));
-        }
-        self.out_of_turn()
+        self.due(self.turn.is_body(Kind::LaserFeedControl))?;
+        let at = LaserFeedControl::write_to_bytes(out, self.at, feed_index, frame_rate)?;
+        Ok(Writer {
+            turn: Turn::Items(Kind::LaserFeedControl, 0),
+            at,
+        })
     }
 
-    pub fn capa(self, out: &mut [u8], capabilities: &[u16]) -> Written
-        ensures { written_says result out.new ≡ apply (give (body kinds.Capa capabilities.now)) (state_of self) out.old }
+    pub fn capa(self, out: &mut [u8], capabilities: &[u16]) -> Result<Writer, Refusal>
+        ensures { written_says self result out.new ≡ apply (give (body kinds.Capa capabilities.now)) (state_of self) out.old }
     {
-        if self.body_is_due(Kind::Capa) {
-            let put = Capa::write_to_bytes(out, self.at, capabilities);
-            return self.after(put, Turn::Items(Kind::Capa, 0));
-        }
-        self.out_of_turn()
+        self.due(self.turn.is_body(Kind::Capa))?;
+        let at = Capa::write_to_bytes(out, self.at, capabilities)?;
+        Ok(Writer {
+            turn: Turn::Items(Kind::Capa, 0),
+            at,
+        })
     }
 
-    pub fn unam(self, out: &mut [u8], universe_index: u8, universe_name: &[u8]) -> Written
-        ensures { written_says result out.new ≡ apply (give (body kinds.UNam (universe_index, universe_name.now))) (state_of self) out.old }
+    pub fn unam(
+        self,
+        out: &mut [u8],
+        universe_index: u8,
+        universe_name: &[u8],
+    ) -> Result<Writer, Refusal>
+        ensures { written_says self result out.new
+            ≡ apply (give (body kinds.UNam (universe_index, universe_name.now))) (state_of self) out.old }
     {
-        if self.body_is_due(Kind::UNam) {
-            let put = UNam::write_to_bytes(out, self.at, universe_index, universe_name);
-            return self.after(put, Turn::Items(Kind::UNam, 0));
-        }
-        self.out_of_turn()
+        self.due(self.turn.is_body(Kind::UNam))?;
+        let at = UNam::write_to_bytes(out, self.at, universe_index, universe_name)?;
+        Ok(Writer {
+            turn: Turn::Items(Kind::UNam, 0),
+            at,
+        })
     }
 
     pub fn chbk(
@@ -230,59 +172,52 @@ impl Writer {
         universe_index: u8,
         first_channel: u16,
         channel_levels: &[u8],
-    ) -> Written
-        ensures { written_says result out.new ≡ apply (give (body kinds.ChBk (blind, (universe_index, (first_channel, channel_levels.now))))) (state_of self) out.old }
+    ) -> Result<Writer, Refusal>
+        ensures { written_says self result out.new
+            ≡ apply (give (body kinds.ChBk (blind, (universe_index, (first_channel, channel_levels.now))))) (state_of self) out.old }
     {
-        if self.body_is_due(Kind::ChBk) {
-            let put = ChBk::write_to_bytes(
-                out,
-                self.at,
-                blind,
-                universe_index,
-                first_channel,
-                channel_levels,
-            );
-            return self.after(put, Turn::Items(Kind::ChBk, 0));
-        }
-        self.out_of_turn()
+        self.due(self.turn.is_body(Kind::ChBk))?;
+        let at = ChBk::write_to_bytes(
+            out,
+            self.at,
+            blind,
+            universe_index,
+            first_channel,
+            channel_levels,
+        )?;
+        Ok(Writer {
+            turn: Turn::Items(Kind::ChBk, 0),
+            at,
+        })
     }
 
-    // Where a channel list is written: past the largest packet's end where it is not due, so that nothing is.
-    fn chls_place(self) -> usize
-        ensures { result ≡ chls_place (state_of self) }
+    pub fn chls(self, out: &mut [u8], channel_levels: &[ChannelLevel]) -> Result<Writer, Refusal>
+        ensures { written_says self result out.new
+            ≡ apply (give (body kinds.ChLs (map level_value channel_levels.now))) (state_of self) out.old }
     {
-        if self.body_is_due(Kind::ChLs) {
-            return self.at;
-        }
-        LIMIT + 1
+        self.due(self.turn.is_body(Kind::ChLs))?;
+        let at = ChLs::write_to_bytes(out, self.at, channel_levels)?;
+        Ok(Writer {
+            turn: Turn::Items(Kind::ChLs, 0),
+            at,
+        })
     }
 
-    fn after_chls(self, put: Put) -> Written
-        ensures { (result.number ≡ chls_number put (state_of self)) × (state_of result.writer ≡ chls_state put (state_of self)) }
+    pub fn sxus(
+        self,
+        out: &mut [u8],
+        universe_index: u8,
+        connection_string: &[u8],
+    ) -> Result<Writer, Refusal>
+        ensures { written_says self result out.new
+            ≡ apply (give (body kinds.Sxus (universe_index, connection_string.now))) (state_of self) out.old }
     {
-        if self.body_is_due(Kind::ChLs) {
-            return self.after(put, Turn::Items(Kind::ChLs, 0));
-        }
-        self.out_of_turn()
-    }
-
-    // From the caller's own records: every decision is in the functions that it calls.
-    pub fn chls(self, out: &mut [u8], channel_levels: &[ChannelLevel]) -> Written
-        ensures { written_says result out.new ≡ apply (give (body kinds.ChLs (map level_value channel_levels.now))) (state_of self) out.old }
-    {
-        let at = self.chls_place();
-        let put = write_to_bytes(out, at, channel_levels);
-        self.after_chls(put)
-    }
-
-    pub fn sxus(self, out: &mut [u8], universe_index: u8, connection_string: &[u8]) -> Written
-        ensures { written_says result out.new ≡ apply (give (body kinds.Sxus (universe_index, connection_string.now))) (state_of self) out.old }
-    {
-        if self.body_is_due(Kind::Sxus) {
-            let put = Sxus::write_to_bytes(out, self.at, universe_index, connection_string);
-            return self.after(put, Turn::Items(Kind::Sxus, 0));
-        }
-        self.out_of_turn()
+        self.due(self.turn.is_body(Kind::Sxus))?;
+        let at = Sxus::write_to_bytes(out, self.at, universe_index, connection_string)?;
+        Ok(Writer {
+            turn: Turn::Items(Kind::Sxus, 0),
+            at,
+        })
     }
 
     pub fn ptch(
@@ -295,44 +230,50 @@ impl Writer {
         channel_count: u16,
         fixture_make: &[u8],
         fixture_name: &[u8],
-    ) -> Written
-        ensures { written_says result out.new ≡ apply (give (body kinds.Ptch (fixture_identifier, (universe, (reserved, (channel, (channel_count, (fixture_make.now, fixture_name.now)))))))) (state_of self) out.old }
+    ) -> Result<Writer, Refusal>
+        ensures { written_says self result out.new
+            ≡ apply (give (body kinds.Ptch
+            (fixture_identifier, (universe, (reserved, (channel, (channel_count, (fixture_make.now, fixture_name.now))))))))
+            (state_of self) out.old }
     {
-        if self.body_is_due(Kind::Ptch) {
-            let put = Ptch::write_to_bytes(
-                out,
-                self.at,
-                fixture_identifier,
-                universe,
-                reserved,
-                channel,
-                channel_count,
-                fixture_make,
-                fixture_name,
-            );
-            return self.after(put, Turn::Items(Kind::Ptch, 0));
-        }
-        self.out_of_turn()
+        self.due(self.turn.is_body(Kind::Ptch))?;
+        let at = Ptch::write_to_bytes(
+            out,
+            self.at,
+            fixture_identifier,
+            universe,
+            reserved,
+            channel,
+            channel_count,
+            fixture_make,
+            fixture_name,
+        )?;
+        Ok(Writer {
+            turn: Turn::Items(Kind::Ptch, 0),
+            at,
+        })
     }
 
-    pub fn uptc(self, out: &mut [u8], fixture_identifiers: &[u16]) -> Written
-        ensures { written_says result out.new ≡ apply (give (body kinds.UPtc fixture_identifiers.now)) (state_of self) out.old }
+    pub fn uptc(self, out: &mut [u8], fixture_identifiers: &[u16]) -> Result<Writer, Refusal>
+        ensures { written_says self result out.new ≡ apply (give (body kinds.UPtc fixture_identifiers.now)) (state_of self) out.old }
     {
-        if self.body_is_due(Kind::UPtc) {
-            let put = UPtc::write_to_bytes(out, self.at, fixture_identifiers);
-            return self.after(put, Turn::Items(Kind::UPtc, 0));
-        }
-        self.out_of_turn()
+        self.due(self.turn.is_body(Kind::UPtc))?;
+        let at = UPtc::write_to_bytes(out, self.at, fixture_identifiers)?;
+        Ok(Writer {
+            turn: Turn::Items(Kind::UPtc, 0),
+            at,
+        })
     }
 
-    pub fn sptc(self, out: &mut [u8], fixture_identifiers: &[u16]) -> Written
-        ensures { written_says result out.new ≡ apply (give (body kinds.SPtc fixture_identifiers.now)) (state_of self) out.old }
+    pub fn sptc(self, out: &mut [u8], fixture_identifiers: &[u16]) -> Result<Writer, Refusal>
+        ensures { written_says self result out.new ≡ apply (give (body kinds.SPtc fixture_identifiers.now)) (state_of self) out.old }
     {
-        if self.body_is_due(Kind::SPtc) {
-            let put = SPtc::write_to_bytes(out, self.at, fixture_identifiers);
-            return self.after(put, Turn::Items(Kind::SPtc, 0));
-        }
-        self.out_of_turn()
+        self.due(self.turn.is_body(Kind::SPtc))?;
+        let at = SPtc::write_to_bytes(out, self.at, fixture_identifiers)?;
+        Ok(Writer {
+            turn: Turn::Items(Kind::SPtc, 0),
+            at,
+        })
     }
 
     pub fn sele(
@@ -341,34 +282,38 @@ impl Writer {
         complete: u8,
         reserved: u8,
         fixture_identifiers: &[u16],
-    ) -> Written
-        ensures { written_says result out.new ≡ apply (give (body kinds.Sele (complete, (reserved, fixture_identifiers.now)))) (state_of self) out.old }
+    ) -> Result<Writer, Refusal>
+        ensures { written_says self result out.new
+            ≡ apply (give (body kinds.Sele (complete, (reserved, fixture_identifiers.now)))) (state_of self) out.old }
     {
-        if self.body_is_due(Kind::Sele) {
-            let put = Sele::write_to_bytes(out, self.at, complete, reserved, fixture_identifiers);
-            return self.after(put, Turn::Items(Kind::Sele, 0));
-        }
-        self.out_of_turn()
+        self.due(self.turn.is_body(Kind::Sele))?;
+        let at = Sele::write_to_bytes(out, self.at, complete, reserved, fixture_identifiers)?;
+        Ok(Writer {
+            turn: Turn::Items(Kind::Sele, 0),
+            at,
+        })
     }
 
-    pub fn dese(self, out: &mut [u8], fixture_identifiers: &[u16]) -> Written
-        ensures { written_says result out.new ≡ apply (give (body kinds.DeSe fixture_identifiers.now)) (state_of self) out.old }
+    pub fn dese(self, out: &mut [u8], fixture_identifiers: &[u16]) -> Result<Writer, Refusal>
+        ensures { written_says self result out.new ≡ apply (give (body kinds.DeSe fixture_identifiers.now)) (state_of self) out.old }
     {
-        if self.body_is_due(Kind::DeSe) {
-            let put = DeSe::write_to_bytes(out, self.at, fixture_identifiers);
-            return self.after(put, Turn::Items(Kind::DeSe, 0));
-        }
-        self.out_of_turn()
+        self.due(self.turn.is_body(Kind::DeSe))?;
+        let at = DeSe::write_to_bytes(out, self.at, fixture_identifiers)?;
+        Ok(Writer {
+            turn: Turn::Items(Kind::DeSe, 0),
+            at,
+        })
     }
 
-    pub fn sfra(self, out: &mut [u8], fixture_identifiers: &[u16]) -> Written
-        ensures { written_says result out.new ≡ apply (give (body kinds.SFra fixture_identifiers.now)) (state_of self) out.old }
+    pub fn sfra(self, out: &mut [u8], fixture_identifiers: &[u16]) -> Result<Writer, Refusal>
+        ensures { written_says self result out.new ≡ apply (give (body kinds.SFra fixture_identifiers.now)) (state_of self) out.old }
     {
-        if self.body_is_due(Kind::SFra) {
-            let put = SFra::write_to_bytes(out, self.at, fixture_identifiers);
-            return self.after(put, Turn::Items(Kind::SFra, 0));
-        }
-        self.out_of_turn()
+        self.due(self.turn.is_body(Kind::SFra))?;
+        let at = SFra::write_to_bytes(out, self.at, fixture_identifiers)?;
+        Ok(Writer {
+            turn: Turn::Items(Kind::SFra, 0),
+            at,
+        })
     }
 
     pub fn fram(
@@ -378,31 +323,35 @@ impl Writer {
         frame_filter_count: u8,
         frame_gobo_count: u8,
         frame_names: &[u8],
-    ) -> Written
-        ensures { written_says result out.new ≡ apply (give (body kinds.Fram (fixture_identifier, (frame_filter_count, (frame_gobo_count, frame_names.now))))) (state_of self) out.old }
+    ) -> Result<Writer, Refusal>
+        ensures { written_says self result out.new
+            ≡ apply (give (body kinds.Fram
+            (fixture_identifier, (frame_filter_count, (frame_gobo_count, frame_names.now))))) (state_of self) out.old }
     {
-        if self.body_is_due(Kind::Fram) {
-            let put = Fram::write_to_bytes(
-                out,
-                self.at,
-                fixture_identifier,
-                frame_filter_count,
-                frame_gobo_count,
-                frame_names,
-            );
-            return self.after(put, Turn::Items(Kind::Fram, 0));
-        }
-        self.out_of_turn()
+        self.due(self.turn.is_body(Kind::Fram))?;
+        let at = Fram::write_to_bytes(
+            out,
+            self.at,
+            fixture_identifier,
+            frame_filter_count,
+            frame_gobo_count,
+            frame_names,
+        )?;
+        Ok(Writer {
+            turn: Turn::Items(Kind::Fram, 0),
+            at,
+        })
     }
 
-    pub fn pnam(self, out: &mut [u8], name: &[u8]) -> Written
-        ensures { written_says result out.new ≡ apply (give (body kinds.PNam name.now)) (state_of self) out.old }
+    pub fn pnam(self, out: &mut [u8], name: &[u8]) -> Result<Writer, Refusal>
+        ensures { written_says self result out.new ≡ apply (give (body kinds.PNam name.now)) (state_of self) out.old }
     {
-        if self.body_is_due(Kind::PNam) {
-            let put = PNam::write_to_bytes(out, self.at, name);
-            return self.after(put, Turn::Items(Kind::PNam, 0));
-        }
-        self.out_of_turn()
+        self.due(self.turn.is_body(Kind::PNam))?;
+        let at = PNam::write_to_bytes(out, self.at, name)?;
+        Ok(Writer {
+            turn: Turn::Items(Kind::PNam, 0),
+            at,
+        })
     }
 
     pub fn ploc(
@@ -412,14 +361,16 @@ impl Writer {
         kind: &[u8],
         name: &[u8],
         state: &[u8],
-    ) -> Written
-        ensures { written_says result out.new ≡ apply (give (body kinds.PLoc (listening_tcp_port, (kind.now, (name.now, state.now))))) (state_of self) out.old }
+    ) -> Result<Writer, Refusal>
+        ensures { written_says self result out.new
+            ≡ apply (give (body kinds.PLoc (listening_tcp_port, (kind.now, (name.now, state.now))))) (state_of self) out.old }
     {
-        if self.body_is_due(Kind::PLoc) {
-            let put = PLoc::write_to_bytes(out, self.at, listening_tcp_port, kind, name, state);
-            return self.after(put, Turn::Items(Kind::PLoc, 0));
-        }
-        self.out_of_turn()
+        self.due(self.turn.is_body(Kind::PLoc))?;
+        let at = PLoc::write_to_bytes(out, self.at, listening_tcp_port, kind, name, state)?;
+        Ok(Writer {
+            turn: Turn::Items(Kind::PLoc, 0),
+            at,
+        })
     }
 
     // ---- a fixture list: its head, then for each fixture head, identifiers, data
@@ -429,14 +380,16 @@ impl Writer {
         out: &mut [u8],
         message_type: FixtureListMessageType,
         fixture_count: usize,
-    ) -> Written
-        ensures { written_says result out.new ≡ apply (give (fixture_list (message_type_code message_type) fixture_count)) (state_of self) out.old }
+    ) -> Result<Writer, Refusal>
+        ensures { written_says self result out.new
+            ≡ apply (give (fixture_list (message_type_code message_type) fixture_count)) (state_of self) out.old }
     {
-        if self.body_is_due(Kind::FixtureList) {
-            let put = FixtureList::write_head(out, self.at, message_type, fixture_count);
-            return self.after(put, Turn::Items(Kind::FixtureList, fixture_count));
-        }
-        self.out_of_turn()
+        self.due(self.turn.is_body(Kind::FixtureList))?;
+        let at = FixtureList::write_head(out, self.at, message_type, fixture_count)?;
+        Ok(Writer {
+            turn: Turn::Items(Kind::FixtureList, fixture_count),
+            at,
+        })
     }
 
     pub fn fixture_head(
@@ -449,36 +402,45 @@ impl Writer {
         channel_count: u16,
         is_dimmer: u8,
         identifier_count: usize,
-    ) -> Written
-        ensures { written_says result out.new ≡ apply (give (fixture (fixture_identifier, (manufacturer_name.now, (fixture_name.now, (mode_name.now, (channel_count, is_dimmer))))) identifier_count)) (state_of self) out.old }
+    ) -> Result<Writer, Refusal>
+        ensures { written_says self result out.new
+            ≡ apply (give (fixture
+            (fixture_identifier, (manufacturer_name.now, (fixture_name.now, (mode_name.now, (channel_count, is_dimmer)))))
+            identifier_count)) (state_of self) out.old }
     {
-        if self.item_is_due(Kind::FixtureList) {
-            let put = Fixture::write_head(
-                out,
-                self.at,
-                fixture_identifier,
-                manufacturer_name,
-                fixture_name,
-                mode_name,
-                channel_count,
-                is_dimmer,
-                identifier_count,
-            );
-            let turn = self.turn;
-            return self.after(put, turn.after_fixture(identifier_count));
-        }
-        self.out_of_turn()
+        self.due(self.turn.is_item(Kind::FixtureList))?;
+        let at = Fixture::write_head(
+            out,
+            self.at,
+            fixture_identifier,
+            manufacturer_name,
+            fixture_name,
+            mode_name,
+            channel_count,
+            is_dimmer,
+            identifier_count,
+        )?;
+        Ok(Writer {
+            turn: self.turn.after_fixture(identifier_count),
+            at,
+        })
     }
 
-    pub fn identifier(self, out: &mut [u8], identifier_type: IdentifierType, data: &[u8]) -> Written
-        ensures { written_says result out.new ≡ apply (give (identifier (identifier_type_code identifier_type, «data».now))) (state_of self) out.old }
+    pub fn identifier(
+        self,
+        out: &mut [u8],
+        identifier_type: IdentifierType,
+        data: &[u8],
+    ) -> Result<Writer, Refusal>
+        ensures { written_says self result out.new
+            ≡ apply (give (identifier (identifier_type_code identifier_type, «data».now))) (state_of self) out.old }
     {
-        if self.identifier_is_due() {
-            let put = Identifier::write_to_bytes(out, self.at, identifier_type, data);
-            let turn = self.turn;
-            return self.after(put, turn.after_identifier());
-        }
-        self.out_of_turn()
+        self.due(self.turn.is_identifier())?;
+        let at = Identifier::write_to_bytes(out, self.at, identifier_type, data)?;
+        Ok(Writer {
+            turn: self.turn.after_identifier(),
+            at,
+        })
     }
 
     pub fn fixture_data(
@@ -488,38 +450,45 @@ impl Writer {
         unit: &[u16],
         circuit: &[u16],
         note: &[u16],
-    ) -> Written
-        ensures { written_says result out.new ≡ apply (give (part.fixture_data (data_value fixture_data unit.now circuit.now note.now))) (state_of self) out.old }
+    ) -> Result<Writer, Refusal>
+        ensures { written_says self result out.new
+            ≡ apply (give (part.fixture_data (data_value fixture_data unit.now circuit.now note.now))) (state_of self) out.old }
     {
-        if self.data_is_due() {
-            let put = fixture_data.write_to_bytes(out, self.at, unit, circuit, note);
-            let turn = self.turn;
-            return self.after(put, turn.after_data());
-        }
-        self.out_of_turn()
+        self.due(self.turn.is_data())?;
+        let at = fixture_data.write_to_bytes(out, self.at, unit, circuit, note)?;
+        Ok(Writer {
+            turn: self.turn.after_data(),
+            at,
+        })
     }
 
     // ---- laser feeds: a head, then names or points
 
-    pub fn laser_feed_list_head(self, out: &mut [u8], source_key: u32, feed_count: usize) -> Written
-        ensures { written_says result out.new ≡ apply (give (laser_feed_list source_key feed_count)) (state_of self) out.old }
+    pub fn laser_feed_list_head(
+        self,
+        out: &mut [u8],
+        source_key: u32,
+        feed_count: usize,
+    ) -> Result<Writer, Refusal>
+        ensures { written_says self result out.new ≡ apply (give (laser_feed_list source_key feed_count)) (state_of self) out.old }
     {
-        if self.body_is_due(Kind::LaserFeedList) {
-            let put = LaserFeedList::write_head(out, self.at, source_key, feed_count);
-            return self.after(put, Turn::Items(Kind::LaserFeedList, feed_count));
-        }
-        self.out_of_turn()
+        self.due(self.turn.is_body(Kind::LaserFeedList))?;
+        let at = LaserFeedList::write_head(out, self.at, source_key, feed_count)?;
+        Ok(Writer {
+            turn: Turn::Items(Kind::LaserFeedList, feed_count),
+            at,
+        })
     }
 
-    pub fn feed_name(self, out: &mut [u8], feed_name: &[u16]) -> Written
-        ensures { written_says result out.new ≡ apply (give (part.feed_name feed_name.now)) (state_of self) out.old }
+    pub fn feed_name(self, out: &mut [u8], feed_name: &[u16]) -> Result<Writer, Refusal>
+        ensures { written_says self result out.new ≡ apply (give (part.feed_name feed_name.now)) (state_of self) out.old }
     {
-        if self.item_is_due(Kind::LaserFeedList) {
-            let put = LaserFeedList::write_name(out, self.at, feed_name);
-            let turn = self.turn;
-            return self.after(put, turn.after_item(Kind::LaserFeedList));
-        }
-        self.out_of_turn()
+        self.due(self.turn.is_item(Kind::LaserFeedList))?;
+        let at = LaserFeedList::write_name(out, self.at, feed_name)?;
+        Ok(Writer {
+            turn: self.turn.after_item(Kind::LaserFeedList),
+            at,
+        })
     }
 
     pub fn laser_feed_frame_head(
@@ -529,31 +498,33 @@ impl Writer {
         feed_index: u8,
         frame_sequence: u32,
         point_count: usize,
-    ) -> Written
-        ensures { written_says result out.new ≡ apply (give (laser_feed_frame source_key feed_index frame_sequence point_count)) (state_of self) out.old }
+    ) -> Result<Writer, Refusal>
+        ensures { written_says self result out.new
+            ≡ apply (give (laser_feed_frame source_key feed_index frame_sequence point_count)) (state_of self) out.old }
     {
-        if self.body_is_due(Kind::LaserFeedFrame) {
-            let put = LaserFeedFrame::write_head(
-                out,
-                self.at,
-                source_key,
-                feed_index,
-                frame_sequence,
-                point_count,
-            );
-            return self.after(put, Turn::Items(Kind::LaserFeedFrame, point_count));
-        }
-        self.out_of_turn()
+        self.due(self.turn.is_body(Kind::LaserFeedFrame))?;
+        let at = LaserFeedFrame::write_head(
+            out,
+            self.at,
+            source_key,
+            feed_index,
+            frame_sequence,
+            point_count,
+        )?;
+        Ok(Writer {
+            turn: Turn::Items(Kind::LaserFeedFrame, point_count),
+            at,
+        })
     }
 
-    pub fn laser_point(self, out: &mut [u8], laser_point: LaserPoint) -> Written
-        ensures { written_says result out.new ≡ apply (give (part.laser_point (point_value laser_point))) (state_of self) out.old }
+    pub fn laser_point(self, out: &mut [u8], laser_point: LaserPoint) -> Result<Writer, Refusal>
+        ensures { written_says self result out.new ≡ apply (give (part.laser_point (point_value laser_point))) (state_of self) out.old }
     {
-        if self.item_is_due(Kind::LaserFeedFrame) {
-            let put = laser_point.write_to_bytes(out, self.at);
-            let turn = self.turn;
-            return self.after(put, turn.after_item(Kind::LaserFeedFrame));
-        }
-        self.out_of_turn()
+        self.due(self.turn.is_item(Kind::LaserFeedFrame))?;
+        let at = laser_point.write_to_bytes(out, self.at)?;
+        Ok(Writer {
+            turn: self.turn.after_item(Kind::LaserFeedFrame),
+            at,
+        })
     }
 }

@@ -1,31 +1,21 @@
-use mathlib.Core.Path.{refl, sym, ◌∙◌}
+use mathlib.Core.Path.{sym, ◌∙◌}
 use native.Mathlib.Omega.{arith}
-use lib.ListN.{length-take}
-use Rattle.book.proofs.Scan.{pass-own, pass-other, pass-clash, pass-end}
+use Rattle.book.proofs.Scan.{pass-start, pass-own, pass-other, pass-clash, pass-end}
 use Rattle.book.proofs.meet_behind.Goals as goal
 
 pub loop-i-init : goal.loop-i-init
-loop-i-init c = let r = c.requires in
-    record { within = r.within; owned = r.owned; clear = refl }
-
-pub overflow_add-own_count : goal.overflow_add-own_count
-overflow_add-own_count c = let r = c.loop-i in
-    let a = c.args in
-    omega (arith, r.invariant.owned.as_many, length-take r.i a.entries.now)
+loop-i-init c = pass-start _ _ c.requires
 
 pub loop-i-preserved-then-same : goal.loop-i-preserved-then-same
-loop-i-preserved-then-same c = let r = c.loop-i in
-    pass-own c.args.entries.now r.invariant (omega arith) (sym c.same.ensures ∙ c.if-same.true)
+loop-i-preserved-then-same c = pass-own c.args.entries.now c.loop-i.invariant (omega arith) (sym c.same.ensures ∙ c.if-same.true)
 
 pub returns-then-shares : goal.returns-then-shares
-returns-then-shares c = let r = c.loop-i in
-    pass-clash c.args.entries.now r.invariant (omega arith)
+returns-then-shares c = pass-clash c.args.entries.now c.loop-i.invariant (omega arith)
     (sym c.same.ensures ∙ c.if-same.false)
     (sym c.shares.ensures ∙ c.if-shares.true)
 
 pub loop-i-preserved : goal.loop-i-preserved
-loop-i-preserved c = let r = c.loop-i in
-    pass-other c.args.entries.now r.invariant (omega arith)
+loop-i-preserved c = pass-other c.args.entries.now c.loop-i.invariant (omega arith)
     (sym c.same.ensures ∙ c.if-same.false)
     (sym c.shares.ensures ∙ c.if-shares.false)
 

@@ -1,11 +1,6 @@
-use Prim.Native.Nat.{◌-◌, ◌≤◌}
 use mathlib.Core.Path.{◌≡◌}
-use lib.ListN.{length}
 use Rattle.book.specs.Scan.{remove_at}
 use Rattle.book.proofs.shift_down.Given as goal
 
 abbrev pub invariant-loop-i : goal.invariant-loop-i
-invariant-loop-i l = (l.i ≤ l.to) × (length l.entries ≡ length l.initial.entries) × (remove_at l.i l.entries ≡ remove_at l.hole l.initial.entries)
-
-abbrev pub decreases-loop-i : goal.decreases-loop-i
-decreases-loop-i l = l.to - l.i
+invariant-loop-i l = remove_at l.i l.entries ≡ remove_at l.hole l.initial.entries

@@ -1,5 +1,5 @@
-use Rattle.names.proofs.Messages.{messages}
+use Rattle.lines.proofs.Fields.{fields}
 use Rattle.caex_messages.proofs.put_fixture_list.Goals as goal
 
 pub returns : goal.returns
-returns c = search messages
+returns c = search fields

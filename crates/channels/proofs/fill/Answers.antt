@@ -4,15 +4,15 @@ use Rattle.patching.specs.Book.{taken_at, universe_words}
 use Rattle.channels.proofs.fill.Goals as goal
 
 pub loop-i-init : goal.loop-i-init
-loop-i-init c = (omega arith, c.requires.1)
+loop-i-init c = c.requires
 
 pub mark-requires : goal.mark-requires
-mark-requires c = (omega arith, omega arith, c.loop-i.invariant.1)
+mark-requires c = (omega arith, c.loop-i.invariant)
 
 pub loop-i-preserved : goal.loop-i-preserved
-loop-i-preserved c = (omega arith, c.mark.ensures)
+loop-i-preserved c = c.mark.ensures
 
 pub returns : goal.returns
 returns c = let l = c.loop-i in
     let a = c.args in
-    l.invariant.1 ∙ ap (λ (k : List ℕ). universe_words (taken_at k a.universe)) (take_all l.i a.entries.now (omega arith))
+    l.invariant ∙ ap (λ (k : List ℕ). universe_words (taken_at k a.universe)) (take_all l.i a.entries.now (omega arith))

@@ -1,10 +1,7 @@
-use Rattle.std.proofs.Common.{◌≡◌, ℕ, ◌-◌, ◌*◌, ◌≤◌, Bool}
+use Rattle.std.proofs.Common.{◌≡◌, ◌*◌}
 use Rattle.patching.specs.Bits.{many}
-use Rattle.patching.specs.Book.{universe_words}
+use Rattle.patching.specs.Book.{taken_at}
 use Rattle.channels.proofs.taken.Given as goal
 
-abbrev pub invariant-loop-k : goal.invariant-loop-k
-invariant-loop-k l = (l.k ≤ 8) × ((p : ℕ → Bool) → l.words ≡ universe_words p → l.taken ≡ many p (l.k * 64))
-
-abbrev pub decreases-loop-k : goal.decreases-loop-k
-decreases-loop-k l = 8 - l.k
+abbrev pub invariant-loop-word : goal.invariant-loop-word
+invariant-loop-word l = l.taken ≡ many (taken_at l.entries l.universe) (l.word-index * 64)

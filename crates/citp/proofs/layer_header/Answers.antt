@@ -1,22 +1,19 @@
-use Rattle.format.proofs.Chain.{met}
-use Rattle.wire.specs.Says.{u32_says}
+use mathlib.Core.Path.{sym}
 use Rattle.layers.specs.Says.{layer_is}
+use Rattle.refusal.proofs.Handed.{handed}
 use Rattle.citp.proofs.Reports.{header-short, header-bare, hint-short, header-hinted}
 use Rattle.citp.proofs.layer_header.Goals as goal
 
-pub returns-in_default : goal.returns-in_default
-returns-in_default c = header-short (layer_is c.args.layer) _ (met u32_says c.u32.ensures c.in_default.is)
+pub returns-in_err-content_type : goal.returns-in_err-content_type
+returns-in_err-content_type c = rw (handed c.from_residual.ensures) (header-short (layer_is c.args.layer) _ (sym c.in_err-content_type.ensures))
 
 pub returns-then-not-has_hint : goal.returns-then-not-has_hint
-returns-then-not-has_hint c = header-bare (layer_is c.args.layer) _ c.has_hint.ensures c.if-not-has_hint.true
-    (met u32_says c.u32.ensures c.in-Read.is)
+returns-then-not-has_hint c = header-bare (layer_is c.args.layer) _ c.has_hint.ensures c.if-not-has_hint.true (sym c.in_ok-content_type.ensures)
 
-pub returns-in_default-u32 : goal.returns-in_default-u32
-returns-in_default-u32 c = hint-short (layer_is c.args.layer) _ c.has_hint.ensures c.if-not-has_hint.false
-    (met u32_says c.u32.ensures c.in-Read.is)
-    (met u32_says c.u32-2.ensures c.in_default-u32.is)
+pub returns-in_err-content_hint : goal.returns-in_err-content_hint
+returns-in_err-content_hint c = rw (handed c.from_residual-in_err-content_hint.ensures) (hint-short (layer_is c.args.layer) _ c.has_hint.ensures
+    c.if-not-has_hint.false (sym c.in_ok-content_type.ensures) (sym c.in_err-content_hint.ensures))
 
 pub returns : goal.returns
-returns c = header-hinted (layer_is c.args.layer) _ c.has_hint.ensures c.if-not-has_hint.false
-    (met u32_says c.u32.ensures c.in-Read.is)
-    (met u32_says c.u32-2.ensures c.in-Read-u32.is)
+returns c = header-hinted (layer_is c.args.layer) _ c.has_hint.ensures c.if-not-has_hint.false (sym c.in_ok-content_type.ensures)
+    (sym c.in_ok-content_hint.ensures)

@@ -1,35 +1,16 @@
 use Rattle.dimmer.proofs.Calls.{needs}
+use Rattle.dimmer.proofs.names_past.Goals.{else-x-ge-CHANNELS-via-then-x-ge-CHANNELS+else-x-universe_index, else-x-ge-CHANNELS-via-else-x-ge-CHANNELS}
 use Rattle.dimmer.proofs.names_past.Goals as goal
-
-pub loop-left-init : goal.loop-left-init
-loop-left-init c = search needs
-
-pub record_at-x-requires : goal.record_at-x-requires
-record_at-x-requires c = search needs
-
-pub overflow_add-at : goal.overflow_add-at
-overflow_add-at c = search needs
-
-pub overflow_sub-left : goal.overflow_sub-left
-overflow_sub-left c = search needs
-
-pub overflow_cast-x : goal.overflow_cast-x
-overflow_cast-x c = search needs
-
-pub loop-left-smaller-then-x-lt-CHANNELS : goal.loop-left-smaller-then-x-lt-CHANNELS
-loop-left-smaller-then-x-lt-CHANNELS c = search needs
-
-pub loop-left-preserved-then-x-lt-CHANNELS : goal.loop-left-preserved-then-x-lt-CHANNELS
-loop-left-preserved-then-x-lt-CHANNELS c = search needs
 
 pub returns-then-x-universe_index : goal.returns-then-x-universe_index
 returns-then-x-universe_index c = search needs
 
-pub loop-left-smaller : goal.loop-left-smaller
-loop-left-smaller c = search needs
-
-pub loop-left-preserved : goal.loop-left-preserved
-loop-left-preserved c = search needs
+pub loop-i-preserved : goal.loop-i-preserved
+loop-i-preserved c =
+    elim c.else-x-ge-CHANNELS.branch [
+      | else-x-ge-CHANNELS-via-then-x-ge-CHANNELS+else-x-universe_index w ↦ search needs
+      | else-x-ge-CHANNELS-via-else-x-ge-CHANNELS w ↦ search needs
+    ]
 
 pub returns : goal.returns
 returns c = search needs

@@ -1,26 +1,6 @@
-use Rattle.put.proofs.Loops.{needs}
+use Rattle.std.proofs.Common.{◌∙◌}
+use Rattle.put.proofs.Zeros.{zero-any}
 use Rattle.put.proofs.holds_zero_unit.Goals as goal
 
-pub loop-i-init : goal.loop-i-init
-loop-i-init c = search needs
-
-pub offset_bounds-units-i : goal.offset_bounds-units-i
-offset_bounds-units-i c = search needs
-
-pub bounds-units-i : goal.bounds-units-i
-bounds-units-i c = search needs
-
-pub returns-then-units-i-eq0 : goal.returns-then-units-i-eq0
-returns-then-units-i-eq0 c = search needs
-
-pub overflow_add-i : goal.overflow_add-i
-overflow_add-i c = search needs
-
-pub loop-i-smaller : goal.loop-i-smaller
-loop-i-smaller c = search needs
-
-pub loop-i-preserved : goal.loop-i-preserved
-loop-i-preserved c = search needs
-
 pub returns : goal.returns
-returns c = search needs
+returns c = c.contains.ensures.value ∙ zero-any c.args.units.now

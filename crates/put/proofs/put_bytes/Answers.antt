@@ -1,23 +1,5 @@
-use Rattle.put.proofs.Loops.{needs}
+use Rattle.put.proofs.Writing.{bytes-more}
 use Rattle.put.proofs.put_bytes.Goals as goal
 
-pub loop-i-init : goal.loop-i-init
-loop-i-init c = search needs
-
-pub bounds-bytes-i : goal.bounds-bytes-i
-bounds-bytes-i c = search needs
-
-pub overflow_add-i : goal.overflow_add-i
-overflow_add-i c = search needs
-
-pub loop-i-smaller : goal.loop-i-smaller
-loop-i-smaller c = search needs
-
-pub loop-i-preserved : goal.loop-i-preserved
-loop-i-preserved c = search needs
-
-pub shape_of-out : goal.shape_of-out
-shape_of-out c = search needs
-
-pub returns : goal.returns
-returns c = search needs
+pub loop-b-preserved : goal.loop-b-preserved
+loop-b-preserved c = bytes-more c.args.bytes.now c.loop-b.b-index c.loop-b-test.true c.loop-b.invariant c.put_byte-next.ensures

@@ -1,6 +1,5 @@
-use Rattle.format.specs.Format.{encode, encode_number}
+use Rattle.put.proofs.Writing.{number-low-1}
 use Rattle.put.proofs.put_number_1.Goals as goal
 
 pub returns : goal.returns
-unfolding encode encode_number
-returns c = record { writes = c.put_byte.ensures }
+returns c = number-low-1 c.put_u8.ensures

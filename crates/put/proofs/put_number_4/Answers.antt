@@ -1,7 +1,5 @@
-use Rattle.format.specs.Format.{encode, encode_number}
-use Rattle.put.proofs.Writing.{put_then}
+use Rattle.put.proofs.Writing.{number-low-4}
 use Rattle.put.proofs.put_number_4.Goals as goal
 
 pub returns : goal.returns
-unfolding encode encode_number
-returns c = record { writes = put_then c.put_byte-at.ensures (put_then c.put_byte-at-2.ensures (put_then c.put_byte-at-3.ensures c.put_byte.ensures)) }
+returns c = number-low-4 c.put_u32.ensures

@@ -4,4 +4,4 @@ use Rattle.put.proofs.put_ucs2.Goals as goal
 
 pub returns : goal.returns
 unfolding encode encode_number
-returns c = record { writes = put_then c.put_u16s-end.ensures c.put_number_2.ensures.writes }
+returns c = record { writes = put_then c.put_values-end.ensures c.put_u16.ensures.writes }

@@ -17,4 +17,4 @@ returns-then-n-lt8 c = let a = c.args in
 pub returns : goal.returns
 returns c = let a = c.args in
     let near = first-free c.first_of_8-n.ensures c.if-n-lt8.false in
-    found-behind a.s.now a.at (first-join near c.first_by_blocks.ensures) c.or_none.ensures
+    found-behind a.s.now a.at (first-join near c.first_by_blocks.ensures) c.place_before.ensures

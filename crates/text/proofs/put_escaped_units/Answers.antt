@@ -1,41 +1,16 @@
-use Rattle.text.proofs.Loops.{needs}
+use Prim.Native.Nat.{◌+◌, ◌*◌}
+use mathlib.Core.Path.{◌≡◌}
+use native.Mathlib.Omega.{arith}
+use lib.ListN.{get_or}
+use Rattle.text.proofs.Loops.{units-more, units-all}
 use Rattle.text.proofs.put_escaped_units.Goals as goal
 
-pub loop-left-init : goal.loop-left-init
-loop-left-init c = search needs
-
-pub overflow_sub-s : goal.overflow_sub-s
-overflow_sub-s c = search needs
-
-pub shape_of-out-then-s-i-lt2 : goal.shape_of-out-then-s-i-lt2
-shape_of-out-then-s-i-lt2 c = search needs
-
-pub returns-then-s-i-lt2 : goal.returns-then-s-i-lt2
-returns-then-s-i-lt2 c = search needs
-
-pub bounds-s-i : goal.bounds-s-i
-bounds-s-i c = search needs
-
-pub overflow_add-i : goal.overflow_add-i
-overflow_add-i c = search needs
-
-pub bounds-s-i-in-loop-left : goal.bounds-s-i-in-loop-left
-bounds-s-i-in-loop-left c = search needs
-
-pub overflow_add-i-in-loop-left : goal.overflow_add-i-in-loop-left
-overflow_add-i-in-loop-left c = search needs
-
-pub overflow_sub-left : goal.overflow_sub-left
-overflow_sub-left c = search needs
-
-pub loop-left-smaller : goal.loop-left-smaller
-loop-left-smaller c = search needs
-
-pub loop-left-preserved : goal.loop-left-preserved
-loop-left-preserved c = search needs
-
-pub shape_of-out : goal.shape_of-out
-shape_of-out c = search needs
+pub loop-i-preserved : goal.loop-i-preserved
+loop-i-preserved c =
+    let i = c.loop-i.i in
+    let s = c.args.s.now in
+    let unit : c.from_le_bytes-unit.result ≡ get_or s (2 * i) 0 + 256 * get_or s (2 * i + 1) 0 = omega (arith, c.from_le_bytes-unit.ensures) in
+    units-more (omega arith) (omega arith) c.loop-i.invariant (rw unit at c.put_escape-next.ensures)
 
 pub returns : goal.returns
-returns c = search needs
+returns c = units-all (omega arith) c.loop-i.invariant

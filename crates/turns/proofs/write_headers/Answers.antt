@@ -1,8 +1,12 @@
-use Rattle.turns.proofs.Laws.{headers-refused, headers-taken}
+use Rattle.refusal.proofs.Handed.{handed}
+use Rattle.put.proofs.Writing.{put-pair}
+use Rattle.put.proofs.Bodies.{refused, taken}
+use Rattle.turns.proofs.Laws.{headers-weighed}
 use Rattle.turns.proofs.write_headers.Goals as goal
 
-pub returns-then-number-ne0 : goal.returns-then-number-ne0
-returns-then-number-ne0 c = headers-refused c.figures-layer.ensures c.header_length.ensures _ _ c.weigh-number.ensures c.if-number-ne0.true
+pub returns-in_err-weigh : goal.returns-in_err-weigh
+returns-in_err-weigh c = rw (handed c.from_residual.ensures) (refused _ (headers-weighed _ _ c.header_length.ensures c.in_err-weigh.ensures))
 
 pub returns : goal.returns
-returns c = headers-taken _ _ c.figures-layer.ensures c.header_length.ensures c.weigh-number.ensures c.if-number-ne0.false c.cookie.ensures c.write_to_bytes-put.ensures c.put_layer_header-at.ensures
+returns c = taken (headers-weighed _ _ c.header_length.ensures c.in_ok-weigh.ensures)
+    (put-pair (rw (c.cookie.ensures, c.layer.ensures) at c.put-at.ensures) c.put_layer_header.ensures)

@@ -1,5 +1,5 @@
 use native.Mathlib.Omega.{arith}
-use Rattle.std.proofs.Common.{[], ◌∷◌, refl, ◌∙◌, arith, ne_eqb}
+use Rattle.std.proofs.Common.{◌≡◌, [], ◌∷◌, length, refl, ◌∙◌, arith, ne_eqb}
 use Rattle.unpatch.proofs.Listed.{among_one}
 use Rattle.unpatch.proofs.Passes.{stay-next}
 use Rattle.unpatch.proofs.ahead_of.Goals as goal
@@ -17,4 +17,4 @@ loop-i-preserved c = let a = c.args in
     (among_one a.dropped _ ∙ ne_eqb a.dropped _ (λ e. omega (arith, c.identifier.ensures)))
 
 pub returns : goal.returns
-returns c = c.loop-i.invariant
+returns c = let end : c.loop-i.i ≡ length c.args.entries.now = omega arith in rw end at c.loop-i.invariant

@@ -1,9 +1,6 @@
-use Rattle.std.proofs.Common.{◌-◌, [], ◌∷◌, length}
+use Rattle.std.proofs.Common.{[], ◌∷◌}
 use Rattle.unpatch.specs.Unpatch.{Stay}
 use Rattle.unpatch.proofs.ahead_of.Given as goal
 
 abbrev pub invariant-loop-i : goal.invariant-loop-i
 invariant-loop-i l = Stay (l.dropped ∷ []) l.entries l.i
-
-abbrev pub decreases-loop-i : goal.decreases-loop-i
-decreases-loop-i l = length l.entries - l.i

@@ -1,10 +1,6 @@
-use Rattle.std.proofs.Common.{◌-◌, length}
 use Rattle.unpatch.specs.Unpatch.{identifiers_of}
 use Rattle.unpatch.proofs.Passes.{Dropping}
 use Rattle.unpatch.proofs.drop_by_ranges.Given as goal
 
 abbrev pub invariant-loop-i : goal.invariant-loop-i
 invariant-loop-i l = Dropping (identifiers_of l.identifiers) l.initial.entries l.entries l.kept l.i
-
-abbrev pub decreases-loop-i : goal.decreases-loop-i
-decreases-loop-i l = length l.initial.entries - l.i

@@ -6,4 +6,4 @@ use Rattle.unpatch.proofs.find_listed.Goals as goal
 
 pub find_within-requires : goal.find_within-requires
 find_within-requires c = let a = c.args in
-    (omega arith, omega arith, found_none (identifiers_of a.identifiers.now) a.entries.now)
+    (omega arith, found_none (identifiers_of a.identifiers.now) a.entries.now)

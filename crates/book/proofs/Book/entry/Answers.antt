@@ -2,7 +2,8 @@ use mathlib.Core.Path.{sym, ap, ◌∙◌}
 use native.Mathlib.Omega.{arith}
 use Rattle.patching.specs.Entry.{Entry, fields}
 use Rattle.patching.specs.Book.{held}
-use Rattle.book.specs.declared.Listed.TheVariants.{Item}
+use Rattle.std.specs.Prelude.{Some}
+use Rattle.book.specs.declared.Entry.{Entry as Fixture}
 use Rattle.book.specs.Listed.{struct_of, listed_of}
 use Rattle.book.proofs.Held.{held-within, held_at, entry-there, entry_past}
 use Rattle.book.proofs.Book.entry.Goals as goal
@@ -19,8 +20,8 @@ bounds-entries-k c = let a = c.args in
 pub returns-then-k-held : goal.returns-then-k-held
 returns-then-k-held c = let a = c.args in
     let h = c.held in
-    ap Item c.fields_of.ensures
-    ∙ ap (λ (x : Entry). Item (struct_of (fields x))) (sym (held_at a.self.count a.entries.now h.result h.ensures a.k (omega arith)))
+    ap (λ (x : Fixture). Some x) c.fields_of.ensures
+    ∙ ap (λ (x : Entry). Some (struct_of (fields x))) (sym (held_at a.self.count a.entries.now h.result h.ensures a.k (omega arith)))
     ∙ ap listed_of (entry-there a.k (held a.self.count a.entries.now) (omega (arith, h.ensures)))
 
 pub returns : goal.returns

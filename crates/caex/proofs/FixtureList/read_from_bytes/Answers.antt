@@ -1,41 +1,20 @@
-use Rattle.caex.proofs.Reading.{needs}
+use Rattle.refusal.proofs.Handed.{handed}
+use Rattle.wire.proofs.Reading.{reading}
+use Rattle.fixture.proofs.Codes.{codes, code-known}
 use Rattle.caex.proofs.FixtureList.read_from_bytes.Goals as goal
 
-pub enum_known-code : goal.enum_known-code
-enum_known-code c = search needs
+pub returns-in_err-code : goal.returns-in_err-code
+returns-in_err-code c = rw (handed c.from_residual.ensures) (search (reading, codes, c.in_err-code.ensures))
 
-pub enum_told-1 : goal.enum_told-1
-enum_told-1 c = search needs
+pub returns-in_err-message_type : goal.returns-in_err-message_type
+returns-in_err-message_type c =
+    rw (handed c.from_residual-in_err-message_type.ensures)
+    (search (reading, codes, c.in_ok-code.ensures, c.in_err-message_type.ensures))
 
-pub returns-in_default : goal.returns-in_default
-returns-in_default c = search needs
-
-pub enum_known-message_type : goal.enum_known-message_type
-enum_known-message_type c = search needs
-
-pub enum_told-in_default-from_u8 : goal.enum_told-in_default-from_u8
-enum_told-in_default-from_u8 c = search needs
-
-pub returns-in_default-from_u8 : goal.returns-in_default-from_u8
-returns-in_default-from_u8 c = search needs
-
-pub enum_known-count : goal.enum_known-count
-enum_known-count c = search needs
-
-pub enum_told-in_default-u16 : goal.enum_told-in_default-u16
-enum_told-in_default-u16 c = search needs
-
-pub returns-in_default-u16 : goal.returns-in_default-u16
-returns-in_default-u16 c = search needs
-
-pub enum_known-answer : goal.enum_known-answer
-enum_known-answer c = search needs
-
-pub enum_told-in_default-answer : goal.enum_told-in_default-answer
-enum_told-in_default-answer c = search needs
-
-pub returns-in_default-answer : goal.returns-in_default-answer
-returns-in_default-answer c = search needs
+pub returns-in_err-fixtures : goal.returns-in_err-fixtures
+returns-in_err-fixtures c =
+    let type = code-known 3 9 _ _ _ _ _ c.in_ok-code.ensures c.in_ok-message_type.ensures in
+    rw (handed c.from_residual-in_err-fixtures.ensures) (search (reading, type, c.in_err-fixtures.ensures))
 
 pub returns : goal.returns
-returns c = search needs
+returns c = search (reading, codes, c.in_ok-code.ensures, c.in_ok-message_type.ensures, c.in_ok-fixtures.ensures)

@@ -1,41 +1,22 @@
-use Rattle.caex.proofs.Reading.{feed-needs as needs}
+use Rattle.refusal.proofs.Handed.{handed}
+use Rattle.wire.proofs.Reading.{reading}
 use Rattle.caex.proofs.LaserFeedFrame.read_from_bytes.Goals as goal
 
-pub enum_known-source_key : goal.enum_known-source_key
-enum_known-source_key c = search needs
+pub returns-in_err-source_key : goal.returns-in_err-source_key
+returns-in_err-source_key c = rw (handed c.from_residual.ensures) (search (reading, c.in_err-source_key.ensures))
 
-pub enum_told-1 : goal.enum_told-1
-enum_told-1 c = search needs
+pub returns-in_err-feed_index : goal.returns-in_err-feed_index
+returns-in_err-feed_index c = rw (handed c.from_residual-in_err-feed_index.ensures) (search (reading, c.in_ok-source_key.ensures, c.in_err-feed_index.ensures))
 
-pub returns-in_default : goal.returns-in_default
-returns-in_default c = search needs
+pub returns-in_err-frame_sequence : goal.returns-in_err-frame_sequence
+returns-in_err-frame_sequence c =
+    rw (handed c.from_residual-in_err-frame_sequence.ensures)
+    (search (reading, c.in_ok-source_key.ensures, c.in_ok-feed_index.ensures, c.in_err-frame_sequence.ensures))
 
-pub enum_known-feed_index : goal.enum_known-feed_index
-enum_known-feed_index c = search needs
-
-pub enum_told-in_default-u8 : goal.enum_told-in_default-u8
-enum_told-in_default-u8 c = search needs
-
-pub returns-in_default-u8 : goal.returns-in_default-u8
-returns-in_default-u8 c = search needs
-
-pub enum_known-frame_sequence : goal.enum_known-frame_sequence
-enum_known-frame_sequence c = search needs
-
-pub enum_told-in_default-u32 : goal.enum_told-in_default-u32
-enum_told-in_default-u32 c = search needs
-
-pub returns-in_default-u32 : goal.returns-in_default-u32
-returns-in_default-u32 c = search needs
-
-pub enum_known-items : goal.enum_known-items
-enum_known-items c = search needs
-
-pub enum_told-in_default-items : goal.enum_told-in_default-items
-enum_told-in_default-items c = search needs
-
-pub returns-in_default-items : goal.returns-in_default-items
-returns-in_default-items c = search needs
+pub returns-in_err-points : goal.returns-in_err-points
+returns-in_err-points c =
+    rw (handed c.from_residual-in_err-points.ensures)
+    (search (reading, c.in_ok-source_key.ensures, c.in_ok-feed_index.ensures, c.in_ok-frame_sequence.ensures, c.in_err-points.ensures))
 
 pub returns : goal.returns
-returns c = search needs
+returns c = search (reading, c.in_ok-source_key.ensures, c.in_ok-feed_index.ensures, c.in_ok-frame_sequence.ensures, c.in_ok-points.ensures) depth 6

@@ -1,20 +1,12 @@
-use Rattle.dimmer.proofs.Calls.{needs}
+use Rattle.dimmer.proofs.Calls.{needs, list-within, list-taken}
+use Rattle.refusal.proofs.Handed.{handed}
 use Rattle.dimmer.proofs.Dimmer.chls.Goals as goal
 
-pub read_from_bytes-requires : goal.read_from_bytes-requires
-read_from_bytes-requires c = search needs
-
-pub enum_known-x : goal.enum_known-x
-enum_known-x c = search needs
+pub returns-in_err-x : goal.returns-in_err-x
+returns-in_err-x c = rw (handed c.from_residual.ensures) (search (needs, c.in_err-x.ensures))
 
 pub set_list-requires : goal.set_list-requires
-set_list-requires c = search needs
+set_list-requires c = list-within c.args.body.now c.in_ok-x.ensures
 
-pub enum_known-number : goal.enum_known-number
-enum_known-number c = search needs
-
-pub returns-in-Read : goal.returns-in-Read
-returns-in-Read c = search needs
-
-pub returns-in-Refused : goal.returns-in-Refused
-returns-in-Refused c = search needs
+pub returns : goal.returns
+returns c = list-taken c.args.self.universe_index c.args.body.now c.args.levels.now c.in_ok-x.ensures c.set_list.ensures

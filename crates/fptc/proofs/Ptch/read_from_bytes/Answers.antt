@@ -1,26 +1,73 @@
+use Rattle.refusal.proofs.Handed.{handed}
 use Rattle.wire.proofs.Reading.{reading}
 use Rattle.fptc.proofs.Ptch.read_from_bytes.Goals as goal
 
-pub returns-in_default : goal.returns-in_default
-returns-in_default c = search (reading, c.u16.ensures, c.in_default.is) depth 20 fits 20000
+pub returns-in_err-fixture_identifier : goal.returns-in_err-fixture_identifier
+returns-in_err-fixture_identifier c = rw (handed c.from_residual.ensures) (search (reading, c.in_err-fixture_identifier.ensures))
 
-pub returns-in_default-u8 : goal.returns-in_default-u8
-returns-in_default-u8 c = search (reading, c.u16.ensures, c.in-Read.is, c.u8.ensures, c.in_default-u8.is) depth 20 fits 20000
+pub returns-in_err-universe : goal.returns-in_err-universe
+returns-in_err-universe c =
+    rw (handed c.from_residual-in_err-universe.ensures)
+    (search (reading, c.in_ok-fixture_identifier.ensures, c.in_err-universe.ensures))
 
-pub returns-in_default-u8-2 : goal.returns-in_default-u8-2
-returns-in_default-u8-2 c = search (reading, c.u16.ensures, c.in-Read.is, c.u8.ensures, c.in-Read-u8.is, c.u8-2.ensures, c.in_default-u8-2.is) depth 20 fits 20000
+pub returns-in_err-reserved : goal.returns-in_err-reserved
+returns-in_err-reserved c =
+    rw (handed c.from_residual-in_err-reserved.ensures)
+    (search (reading, c.in_ok-fixture_identifier.ensures, c.in_ok-universe.ensures, c.in_err-reserved.ensures))
 
-pub returns-in_default-u16 : goal.returns-in_default-u16
-returns-in_default-u16 c = search (reading, c.u16.ensures, c.in-Read.is, c.u8.ensures, c.in-Read-u8.is, c.u8-2.ensures, c.in-Read-u8-2.is, c.u16-2.ensures, c.in_default-u16.is) depth 20 fits 20000
+pub returns-in_err-channel : goal.returns-in_err-channel
+returns-in_err-channel c =
+    rw (handed c.from_residual-in_err-channel.ensures)
+    (search (reading, c.in_ok-fixture_identifier.ensures, c.in_ok-universe.ensures, c.in_ok-reserved.ensures, c.in_err-channel.ensures))
 
-pub returns-in_default-u16-2 : goal.returns-in_default-u16-2
-returns-in_default-u16-2 c = search (reading, c.u16.ensures, c.in-Read.is, c.u8.ensures, c.in-Read-u8.is, c.u8-2.ensures, c.in-Read-u8-2.is, c.u16-2.ensures, c.in-Read-u16.is, c.u16-3.ensures, c.in_default-u16-2.is) depth 20 fits 20000
+pub returns-in_err-channel_count : goal.returns-in_err-channel_count
+returns-in_err-channel_count c =
+    rw (handed c.from_residual-in_err-channel_count.ensures)
+    (search (
+      reading,
+      c.in_ok-fixture_identifier.ensures,
+      c.in_ok-universe.ensures,
+      c.in_ok-reserved.ensures,
+      c.in_ok-channel.ensures,
+      c.in_err-channel_count.ensures,
+    ))
 
-pub returns-in_default-answer : goal.returns-in_default-answer
-returns-in_default-answer c = search (reading, c.u16.ensures, c.in-Read.is, c.u8.ensures, c.in-Read-u8.is, c.u8-2.ensures, c.in-Read-u8-2.is, c.u16-2.ensures, c.in-Read-u16.is, c.u16-3.ensures, c.in-Read-u16-2.is, c.cstring-answer.ensures, c.in_default-answer.is, c.number.ensures) depth 20 fits 20000
+pub returns-in_err-fixture_make : goal.returns-in_err-fixture_make
+returns-in_err-fixture_make c =
+    rw (handed c.from_residual-in_err-fixture_make.ensures)
+    (search (
+      reading,
+      c.in_ok-fixture_identifier.ensures,
+      c.in_ok-universe.ensures,
+      c.in_ok-reserved.ensures,
+      c.in_ok-channel.ensures,
+      c.in_ok-channel_count.ensures,
+      c.in_err-fixture_make.ensures,
+    ) depth 20)
 
-pub returns-in_default-answer-2 : goal.returns-in_default-answer-2
-returns-in_default-answer-2 c = search (reading, c.u16.ensures, c.in-Read.is, c.u8.ensures, c.in-Read-u8.is, c.u8-2.ensures, c.in-Read-u8-2.is, c.u16-2.ensures, c.in-Read-u16.is, c.u16-3.ensures, c.in-Read-u16-2.is, c.cstring-answer.ensures, c.in-Read-answer.is, c.cstring-answer-2.ensures, c.in_default-answer-2.is, c.number-in_default-answer-2.ensures) depth 20 fits 20000
+pub returns-in_err-fixture_name : goal.returns-in_err-fixture_name
+returns-in_err-fixture_name c =
+    rw (handed c.from_residual-in_err-fixture_name.ensures)
+    (search (
+      reading,
+      c.in_ok-fixture_identifier.ensures,
+      c.in_ok-universe.ensures,
+      c.in_ok-reserved.ensures,
+      c.in_ok-channel.ensures,
+      c.in_ok-channel_count.ensures,
+      c.in_ok-fixture_make.ensures,
+      c.in_err-fixture_name.ensures,
+    ) depth 20)
 
 pub returns : goal.returns
-returns c = search (reading, c.u16.ensures, c.in-Read.is, c.u8.ensures, c.in-Read-u8.is, c.u8-2.ensures, c.in-Read-u8-2.is, c.u16-2.ensures, c.in-Read-u16.is, c.u16-3.ensures, c.in-Read-u16-2.is, c.cstring-answer.ensures, c.in-Read-answer.is, c.cstring-answer-2.ensures, c.in-Read-answer-2.is) depth 20 fits 20000
+returns c =
+    search (
+      reading,
+      c.in_ok-fixture_identifier.ensures,
+      c.in_ok-universe.ensures,
+      c.in_ok-reserved.ensures,
+      c.in_ok-channel.ensures,
+      c.in_ok-channel_count.ensures,
+      c.in_ok-fixture_make.ensures,
+      c.in_ok-fixture_name.ensures,
+    ) depth 20

@@ -1,8 +1,8 @@
-use Prim.Native.Nat.{ℕ}
-use mathlib.Core.Path.{◌≡◌, refl, sym, ap, ◌∙◌}
-use mathlib.Core.Option.{some}
+use native.Mathlib.Omega.{arith}
+use Rattle.std.proofs.Common.{ℕ, ◌≡◌, refl, sym, ap, ◌∙◌}
+use Rattle.std.proofs.Math.Option.{some}
 use Rattle.format.specs.Fault.{any}
-use Rattle.protocol.specs.Layer.{Layer, cookie, layer_of}
+use Rattle.protocol.specs.Layer.{Layer, PINF, SDMX, FPTC, FSEL, FINF, CAEX, cookie, layer_of}
 use Rattle.protocol.proofs.Every.{every}
 use Rattle.protocol.proofs.Lookup.{layer-found, none_of}
 use Rattle.layers.proofs.Layer.of.Goals as goal
@@ -11,27 +11,28 @@ use Rattle.layers.proofs.Layer.of.Goals as goal
 found_at : {l : Layer} {c : ℕ} → c ≡ cookie l → some l ≡ layer_of c
 found_at {l} e = sym (ap layer_of e ∙ layer-found l)
 
-pub returns-then-cookie-eq-COOKIE : goal.returns-then-cookie-eq-COOKIE
-returns-then-cookie-eq-COOKIE c = found_at c.if-cookie-eq-COOKIE.true
+pub returns-in-1481458771 : goal.returns-in-1481458771
+returns-in-1481458771 c = found_at c.in-1481458771.is
 
-pub returns-then-cookie-eq-COOKIE-2 : goal.returns-then-cookie-eq-COOKIE-2
-returns-then-cookie-eq-COOKIE-2 c = found_at c.if-cookie-eq-COOKIE-2.true
+pub returns-in-1129599046 : goal.returns-in-1129599046
+returns-in-1129599046 c = found_at c.in-1129599046.is
 
-pub returns-then-cookie-eq-COOKIE-3 : goal.returns-then-cookie-eq-COOKIE-3
-returns-then-cookie-eq-COOKIE-3 c = found_at c.if-cookie-eq-COOKIE-3.true
+pub returns-in-1279611718 : goal.returns-in-1279611718
+returns-in-1279611718 c = found_at c.in-1279611718.is
 
-pub returns-then-cookie-eq-COOKIE-4 : goal.returns-then-cookie-eq-COOKIE-4
-returns-then-cookie-eq-COOKIE-4 c = found_at c.if-cookie-eq-COOKIE-4.true
+pub returns-in-1179535686 : goal.returns-in-1179535686
+returns-in-1179535686 c = found_at c.in-1179535686.is
 
-pub returns-then-cookie-eq-COOKIE-5 : goal.returns-then-cookie-eq-COOKIE-5
-returns-then-cookie-eq-COOKIE-5 c = found_at c.if-cookie-eq-COOKIE-5.true
+pub returns-in-1179535696 : goal.returns-in-1179535696
+returns-in-1179535696 c = found_at c.in-1179535696.is
 
-pub returns-then-cookie-eq-COOKIE-6 : goal.returns-then-cookie-eq-COOKIE-6
-returns-then-cookie-eq-COOKIE-6 c = found_at c.if-cookie-eq-COOKIE-6.true
+pub returns-in-1480933699 : goal.returns-in-1480933699
+returns-in-1480933699 c = found_at c.in-1480933699.is
 
 -- none of the six cookies, in whichever order they are tried
-pub returns : goal.returns
+pub returns-in_default : goal.returns-in_default
 unfolding every any
-returns c = sym
-    (none_of c.if-cookie-eq-COOKIE.false c.if-cookie-eq-COOKIE-2.false
-    c.if-cookie-eq-COOKIE-3.false c.if-cookie-eq-COOKIE-4.false c.if-cookie-eq-COOKIE-5.false c.if-cookie-eq-COOKIE-6.false refl)
+returns-in_default c = sym (
+    none_of {u = cookie SDMX} {v = cookie FPTC} {w = cookie FSEL} {x = cookie FINF} {y = cookie PINF} {z = cookie CAEX}
+    (omega arith) (omega arith) (omega arith) (omega arith) (omega arith) (omega arith) refl
+    )

@@ -1,41 +1,18 @@
-use Rattle.wire.proofs.Reading.{needs}
+use Rattle.refusal.proofs.Handed.{handed}
+use Rattle.wire.proofs.Reading.{reading}
 use Rattle.pinf.proofs.PLoc.read_from_bytes.Goals as goal
 
-pub enum_known-listening_tcp_port : goal.enum_known-listening_tcp_port
-enum_known-listening_tcp_port c = search needs
+pub returns-in_err-listening_tcp_port : goal.returns-in_err-listening_tcp_port
+returns-in_err-listening_tcp_port c = rw (handed c.from_residual.ensures) (search (reading, c.in_err-listening_tcp_port.ensures))
 
-pub enum_told-1 : goal.enum_told-1
-enum_told-1 c = search needs
+pub returns-in_err-kind : goal.returns-in_err-kind
+returns-in_err-kind c = rw (handed c.from_residual-in_err-kind.ensures) (search (reading, c.in_ok-listening_tcp_port.ensures, c.in_err-kind.ensures))
 
-pub returns-in_default : goal.returns-in_default
-returns-in_default c = search needs
+pub returns-in_err-name : goal.returns-in_err-name
+returns-in_err-name c = rw (handed c.from_residual-in_err-name.ensures) (search (reading, c.in_ok-listening_tcp_port.ensures, c.in_ok-kind.ensures, c.in_err-name.ensures))
 
-pub enum_known-answer : goal.enum_known-answer
-enum_known-answer c = search needs
-
-pub enum_told-in_default-answer : goal.enum_told-in_default-answer
-enum_told-in_default-answer c = search needs
-
-pub returns-in_default-answer : goal.returns-in_default-answer
-returns-in_default-answer c = search needs
-
-pub enum_known-answer-in-Read-answer-2 : goal.enum_known-answer-in-Read-answer-2
-enum_known-answer-in-Read-answer-2 c = search needs
-
-pub enum_told-in_default-answer-2 : goal.enum_told-in_default-answer-2
-enum_told-in_default-answer-2 c = search needs
-
-pub returns-in_default-answer-2 : goal.returns-in_default-answer-2
-returns-in_default-answer-2 c = search needs
-
-pub enum_known-answer-in-Read-answer-3 : goal.enum_known-answer-in-Read-answer-3
-enum_known-answer-in-Read-answer-3 c = search needs
-
-pub enum_told-in_default-answer-3 : goal.enum_told-in_default-answer-3
-enum_told-in_default-answer-3 c = search needs
-
-pub returns-in_default-answer-3 : goal.returns-in_default-answer-3
-returns-in_default-answer-3 c = search needs
+pub returns-in_err-state : goal.returns-in_err-state
+returns-in_err-state c = rw (handed c.from_residual-in_err-state.ensures) (search (reading, c.in_ok-listening_tcp_port.ensures, c.in_ok-kind.ensures, c.in_ok-name.ensures, c.in_err-state.ensures))
 
 pub returns : goal.returns
-returns c = search needs
+returns c = search (reading, c.in_ok-listening_tcp_port.ensures, c.in_ok-kind.ensures, c.in_ok-name.ensures, c.in_ok-state.ensures)

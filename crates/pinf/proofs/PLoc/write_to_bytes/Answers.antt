@@ -1,11 +1,12 @@
 use Rattle.format.specs.Format.{size}
+use Rattle.refusal.proofs.Handed.{handed}
 use Rattle.put.proofs.Bodies.{bodies}
 use Rattle.pinf.proofs.PLoc.write_to_bytes.Goals as goal
 
-pub returns-then-number-ne0 : goal.returns-then-number-ne0
+pub returns-in_err-weigh : goal.returns-in_err-weigh
 unfolding size
-returns-then-number-ne0 c = search (bodies, c.weigh-number.ensures) depth 20
+returns-in_err-weigh c = rw (handed c.from_residual.ensures) (search (bodies, c.in_err-weigh.ensures) depth 20)
 
 pub returns : goal.returns
 unfolding size
-returns c = search bodies depth 20
+returns c = search (bodies, c.in_ok-weigh.ensures) depth 20

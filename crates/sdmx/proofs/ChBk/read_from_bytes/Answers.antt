@@ -1,41 +1,24 @@
-use Rattle.wire.proofs.Reading.{needs}
+use Rattle.refusal.proofs.Handed.{handed}
+use Rattle.wire.proofs.Reading.{reading}
 use Rattle.sdmx.proofs.ChBk.read_from_bytes.Goals as goal
 
-pub enum_known-blind : goal.enum_known-blind
-enum_known-blind c = search needs
+pub returns-in_err-blind : goal.returns-in_err-blind
+returns-in_err-blind c = rw (handed c.from_residual.ensures) (search (reading, c.in_err-blind.ensures))
 
-pub enum_told-1 : goal.enum_told-1
-enum_told-1 c = search needs
+pub returns-in_err-universe_index : goal.returns-in_err-universe_index
+returns-in_err-universe_index c =
+    rw (handed c.from_residual-in_err-universe_index.ensures)
+    (search (reading, c.in_ok-blind.ensures, c.in_err-universe_index.ensures))
 
-pub returns-in_default : goal.returns-in_default
-returns-in_default c = search needs
+pub returns-in_err-first_channel : goal.returns-in_err-first_channel
+returns-in_err-first_channel c =
+    rw (handed c.from_residual-in_err-first_channel.ensures)
+    (search (reading, c.in_ok-blind.ensures, c.in_ok-universe_index.ensures, c.in_err-first_channel.ensures))
 
-pub enum_known-universe_index : goal.enum_known-universe_index
-enum_known-universe_index c = search needs
-
-pub enum_told-in_default-u8 : goal.enum_told-in_default-u8
-enum_told-in_default-u8 c = search needs
-
-pub returns-in_default-u8 : goal.returns-in_default-u8
-returns-in_default-u8 c = search needs
-
-pub enum_known-first_channel : goal.enum_known-first_channel
-enum_known-first_channel c = search needs
-
-pub enum_told-in_default-u16 : goal.enum_told-in_default-u16
-enum_told-in_default-u16 c = search needs
-
-pub returns-in_default-u16 : goal.returns-in_default-u16
-returns-in_default-u16 c = search needs
-
-pub enum_known-channel_levels : goal.enum_known-channel_levels
-enum_known-channel_levels c = search needs
-
-pub enum_told-in_default-block : goal.enum_told-in_default-block
-enum_told-in_default-block c = search needs
-
-pub returns-in_default-block : goal.returns-in_default-block
-returns-in_default-block c = search needs
+pub returns-in_err-channel_levels : goal.returns-in_err-channel_levels
+returns-in_err-channel_levels c =
+    rw (handed c.from_residual-in_err-channel_levels.ensures)
+    (search (reading, c.in_ok-blind.ensures, c.in_ok-universe_index.ensures, c.in_ok-first_channel.ensures, c.in_err-channel_levels.ensures))
 
 pub returns : goal.returns
-returns c = search needs
+returns c = search (reading, c.in_ok-blind.ensures, c.in_ok-universe_index.ensures, c.in_ok-first_channel.ensures, c.in_ok-channel_levels.ensures)

@@ -1,25 +1,11 @@
-use native.Mathlib.Omega.{arith}
-use Rattle.wire.proofs.Strings.{cstring-refused, cstring-taken}
+use Rattle.wire.proofs.Strings.{cstring-8, cstring-19, cstring-taken}
 use Rattle.wire.proofs.Cursor.cstring.Goals as goal
 
-pub returns-then-longest-len : goal.returns-then-longest-len
-returns-then-longest-len c = let a = c.args in
-    cstring-refused a.body.now a.self.at a.limit (omega arith) c.longest.ensures
-    c.bytes_before_zero-len.ensures c.if-longest-len.true c.refusal.ensures
+pub returns-in_default : goal.returns-in_default
+returns-in_default c = cstring-8 _ _ _ c.in_default.ensures
 
-pub overflow_add-result : goal.overflow_add-result
-overflow_add-result c = let a = c.args in
-    let taken = cstring-taken a.body.now a.self.at a.limit (omega arith) c.longest.ensures
-    c.bytes_before_zero-len.ensures c.if-longest-len.false in
-    omega (arith, taken.1)
-
-pub overflow_add-result-2 : goal.overflow_add-result-2
-overflow_add-result-2 c = let a = c.args in
-    let taken = cstring-taken a.body.now a.self.at a.limit (omega arith) c.longest.ensures
-    c.bytes_before_zero-len.ensures c.if-longest-len.false in
-    omega (arith, taken.1)
+pub returns-then-limit-len : goal.returns-then-limit-len
+returns-then-limit-len c = cstring-19 _ _ _ c.in-Some.ensures c.if-limit-len.true
 
 pub returns : goal.returns
-returns c = let a = c.args in
-    (cstring-taken a.body.now a.self.at a.limit (omega arith) c.longest.ensures
-    c.bytes_before_zero-len.ensures c.if-longest-len.false).0
+returns c = cstring-taken _ _ _ c.in-Some.ensures c.if-limit-len.false

@@ -1,9 +1,12 @@
-use mathlib.Core.Path.{refl}
-use Rattle.writer.proofs.Calls.{gave, out-of-turn}
+use Rattle.refusal.proofs.Handed.{handed}
+use Rattle.writer.proofs.Calls.{calls}
 use Rattle.writer.proofs.Writer.capa.Goals as goal
 
-pub returns-then-body_is_due : goal.returns-then-body_is_due
-returns-then-body_is_due c = gave _ _ _ c.body_is_due.ensures c.if-body_is_due.true c.write_to_bytes-put.ensures c.after.ensures refl
+pub returns-in_err-due : goal.returns-in_err-due
+returns-in_err-due c = rw (handed c.from_residual.ensures) (search (calls, c.in_err-due.ensures))
+
+pub returns-in_err-at : goal.returns-in_err-at
+returns-in_err-at c = rw (handed c.from_residual-in_err-at.ensures) (search (calls, c.in_ok-due.ensures, c.in_err-at.ensures))
 
 pub returns : goal.returns
-returns c = out-of-turn _ _ c.body_is_due.ensures c.if-body_is_due.false c.out_of_turn.ensures
+returns c = search (calls, c.in_ok-due.ensures, c.in_ok-at.ensures)

@@ -1,10 +1,12 @@
-use Rattle.std.proofs.Common.{map}
-use Rattle.chls.specs.Levels.{level_value}
-use Rattle.writer.specs.Says.{state_of}
-use Rattle.writer.proofs.Calls.{channel-list}
+use Rattle.refusal.proofs.Handed.{handed}
+use Rattle.writer.proofs.Calls.{calls}
 use Rattle.writer.proofs.Writer.chls.Goals as goal
 
+pub returns-in_err-due : goal.returns-in_err-due
+returns-in_err-due c = rw (handed c.from_residual.ensures) (search (calls, c.in_err-due.ensures))
+
+pub returns-in_err-at : goal.returns-in_err-at
+returns-in_err-at c = rw (handed c.from_residual-in_err-at.ensures) (search (calls, c.in_ok-due.ensures, c.in_err-at.ensures))
+
 pub returns : goal.returns
-returns c =
-    channel-list (map level_value c.args.channel_levels.now) (state_of c.args.self) c.args.out.now c.chls_place-at.result c.chls_place-at.ensures
-    c.write_to_bytes-put.ensures c.after_chls.ensures
+returns c = search (calls, c.in_ok-due.ensures, c.in_ok-at.ensures)

@@ -1,11 +1,12 @@
-use Rattle.writer.proofs.Calls.{closed, close-refused, out-of-turn}
+use Rattle.refusal.proofs.Handed.{handed}
+use Rattle.writer.proofs.Calls.{out-of-turn, close-refused, closed}
 use Rattle.writer.proofs.Writer.close.Goals as goal
 
-pub returns-then-number-ne0 : goal.returns-then-number-ne0
-returns-then-number-ne0 c = close-refused _ _ c.close_is_due.ensures c.if-close_is_due.true c.weigh-number.ensures c.if-number-ne0.true
+pub returns-in_err-due : goal.returns-in_err-due
+returns-in_err-due c = rw (handed c.from_residual.ensures) (out-of-turn _ _ _ c.is_close.ensures c.in_err-due.ensures)
 
-pub returns-then-close_is_due : goal.returns-then-close_is_due
-returns-then-close_is_due c = closed _ _ c.close_is_due.ensures c.if-close_is_due.true c.weigh-number.ensures c.if-number-ne0.false c.put_number_4.ensures
+pub returns-in_err-weigh : goal.returns-in_err-weigh
+returns-in_err-weigh c = rw (handed c.from_residual-in_err-weigh.ensures) (close-refused _ _ c.is_close.ensures c.in_ok-due.ensures _ c.in_err-weigh.ensures)
 
 pub returns : goal.returns
-returns c = out-of-turn _ _ c.close_is_due.ensures c.if-close_is_due.false c.out_of_turn.ensures
+returns c = closed _ _ c.is_close.ensures c.in_ok-due.ensures c.in_ok-weigh.ensures c.put_number_4.ensures

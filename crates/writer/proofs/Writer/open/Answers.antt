@@ -1,8 +1,12 @@
-use Rattle.writer.proofs.Calls.{opened, out-of-turn}
+use Rattle.refusal.proofs.Handed.{handed}
+use Rattle.writer.proofs.Calls.{out-of-turn, opened}
 use Rattle.writer.proofs.Writer.open.Goals as goal
 
-pub returns-then-open_is_due : goal.returns-then-open_is_due
-returns-then-open_is_due c = opened _ _ _ _ _ c.open_is_due.ensures c.if-open_is_due.true c.write_headers-put.ensures c.after.ensures
+pub returns-in_err-due : goal.returns-in_err-due
+returns-in_err-due c = rw (handed c.from_residual.ensures) (out-of-turn _ _ _ c.is_idle.ensures c.in_err-due.ensures)
+
+pub returns-in_err-at : goal.returns-in_err-at
+returns-in_err-at c = rw (handed c.from_residual-in_err-at.ensures) (opened _ _ _ _ _ c.is_idle.ensures c.in_ok-due.ensures c.in_err-at.ensures)
 
 pub returns : goal.returns
-returns c = out-of-turn _ _ c.open_is_due.ensures c.if-open_is_due.false c.out_of_turn.ensures
+returns c = opened _ _ _ _ _ c.is_idle.ensures c.in_ok-due.ensures c.in_ok-at.ensures

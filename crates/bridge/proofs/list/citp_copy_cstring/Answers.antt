@@ -1,8 +1,0 @@
-use Rattle.bridge.proofs.Flat.{copied-told}
-use Rattle.bridge.proofs.list.citp_copy_cstring.Goals as goal
-
-pub returns-in-Copied : goal.returns-in-Copied
-returns-in-Copied c = copied-told c.copy_cstring.ensures c.in-Copied.is
-
-pub returns-in-Refused : goal.returns-in-Refused
-returns-in-Refused c = copied-told c.copy_cstring.ensures c.in-Refused.is

@@ -1,0 +1,5 @@
+use Rattle.lines.proofs.Fields.{fields}
+use Rattle.caex_messages.proofs.CaexLinesItemLinesLaserPoint.put.Goals as goal
+
+pub returns : goal.returns
+returns c = search fields

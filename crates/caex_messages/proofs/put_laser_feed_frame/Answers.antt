@@ -1,5 +1,0 @@
-use Rattle.names.proofs.Messages.{messages}
-use Rattle.caex_messages.proofs.put_laser_feed_frame.Goals as goal
-
-pub returns : goal.returns
-returns c = search messages

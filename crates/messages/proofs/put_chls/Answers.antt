@@ -1,5 +1,0 @@
-use Rattle.lines.proofs.Fields.{fields}
-use Rattle.messages.proofs.put_chls.Goals as goal
-
-pub returns : goal.returns
-returns c = search fields

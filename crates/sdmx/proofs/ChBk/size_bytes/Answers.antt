@@ -1,7 +1,0 @@
-use native.Mathlib.Omega.{arith}
-use Rattle.format.specs.Format.{size}
-use Rattle.sdmx.proofs.ChBk.size_bytes.Goals as goal
-
-pub returns : goal.returns
-unfolding size
-returns c = omega arith

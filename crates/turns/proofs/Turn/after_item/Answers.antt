@@ -1,4 +1,0 @@
-use Rattle.turns.proofs.Turn.after_item.Goals as goal
-
-pub returns : goal.returns
-returns c = simp (c.less.ensures, c.left.ensures)

@@ -1,4 +1,0 @@
-use Rattle.writer.proofs.Writer.open_is_due.Goals as goal
-
-pub returns : goal.returns
-returns c = simp (c.is_due.ensures, c.is_idle.ensures)
