@@ -99,8 +99,8 @@ pub struct TooFewPlaces {
     pub found: Unsupported,
 }
 
-// The offsets of a sender's packets that a receiver with these capabilities does not support, into the first places of `offsets`, which keep
-// what they hold where they are too few. One place for each 20 bytes of the stream is always enough, and the stream is then walked once.
+// The offsets of a sender's packets that a receiver with these capabilities does not support, into the first places of `offsets`; these stay
+// as they are where they are too few. One place for each 20 bytes of the stream is always enough, and the stream is then walked once.
 pub fn list_unsupported(
     capabilities: &[u16],
     s: &[u8],

@@ -67,31 +67,27 @@ abbrev value_in : ℕ × ℕ → Seen (ℕ × ℕ) → ℕ × ℕ
 value_in d (seen v e) = v
 value_in d (missed k) = d
 
-module _ (l : Layer) (end : ℕ) (p : List ℕ) where
-  pub layer-unread : {k : ℕ} → header_length l ≤ length p → view (layer_header l) p 20 ≡ missed k
-      → refusal 6 ≡ read_layer (end - length p) (cookie l) p (math.some l)
+module _ (l : Layer) (at : ℕ) (p : List ℕ) where
+  pub layer-unread : {k : ℕ} → header_length l ≤ length p → view (layer_header l) p 20 ≡ missed k → refusal 6 ≡ read_layer at (cookie l) p (math.some l)
   unfolding view placed
   layer-unread {k} h e = rw (le-ltb (length p) (header_length l) h) (by (decode (layer_header l) (drop 20 p)) e)
     where
-      by : (r : Read (Value (layer_header l))) → placed (layer_header l) 20 r ≡ missed k → refusal 6 ≡ read_layer_header l (end - length p) p r
+      by : (r : Read (Value (layer_header l))) → placed (layer_header l) 20 r ≡ missed k → refusal 6 ≡ read_layer_header l at p r
       by (got t u) q = cc
       by (refused n) q = refl
 
   -- the body is the packet from its headers' end on
-  pub layer-read : {x : Content View} {t : ℕ × ℕ} {e n : ℕ} → n ≡ header_length l → n ≤ length p → length p ≤ end → view (layer_header l) p 20 ≡ seen t e
-      → (let b = take (length p - n) (drop n p) in x ≡ content_of l (end - length b) (length b) t.0 t.1 (read_body l t.0 b))
-      → x ≡ read_layer (end - length p) (cookie l) p (math.some l)
+  pub layer-read : {x : Content View} {t : ℕ × ℕ} {e n : ℕ} → n ≡ header_length l → n ≤ length p → view (layer_header l) p 20 ≡ seen t e
+      → (let b = take (length p - n) (drop n p) in x ≡ content_of l (at + header_length l) (length b) t.0 t.1 (read_body l t.0 b))
+      → x ≡ read_layer at (cookie l) p (math.some l)
   unfolding view placed place
-  layer-read {x} {t} {e} {n} z h m q is = is ∙ rw (from-part, z, le-ltb (length p) (header_length l) (rw z at h)) (by (decode (layer_header l) (drop 20 p)) q)
+  layer-read {x} {t} {e} {n} z h q is = is ∙ rw (from-part, z, le-ltb (length p) (header_length l) (rw z at h)) (by (decode (layer_header l) (drop 20 p)) q)
     where
       from-part : take (length p - n) (drop n p) ≡ drop n p
       from-part = take_all (length p - n) (drop n p) (omega (arith, length-drop n p))
 
       by : (r : Read (Value (layer_header l))) → placed (layer_header l) 20 r ≡ seen t e
-          → content_of l (end - length (drop (header_length l) p)) (length (drop (header_length l) p)) t.0 t.1 (read_body l t.0 (drop (header_length l) p))
-          ≡ read_layer_header l (end - length p) p r
-      by (got v u) q =
-          let same : v ≡ t = ap (value_in t) q in
-          let start : end - length (drop (header_length l) p) ≡ end - length p + header_length l = omega (arith, z, length-drop (header_length l) p) in
-          rw (same, start, length-drop (header_length l) p)
+          → content_of l (at + header_length l) (length (drop (header_length l) p)) t.0 t.1 (read_body l t.0 (drop (header_length l) p))
+          ≡ read_layer_header l at p r
+      by (got v u) q = let same : v ≡ t = ap (value_in t) q in rw (same, length-drop (header_length l) p)
       by (refused k) q = cc

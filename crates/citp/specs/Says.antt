@@ -1,5 +1,5 @@
 -- What the walk's answers say.
-use Rattle.std.specs.Prelude.{ℕ, ◌-◌, List, length, take, drop, Result, Ok, Err, Option, Some, None}
+use Rattle.std.specs.Prelude.{ℕ, ◌+◌, ◌-◌, List, length, take, drop, Result, Ok, Err, Option, Some, None}
 use Rattle.std.proofs.Math.Option as math
 use Rattle.format.specs.View.{View}
 use Rattle.format.specs.Walk.{stop, report}
@@ -27,10 +27,10 @@ use Rattle.citp.specs.declared.Report.TheVariants as content
 abbrev pub layer_header_value : LayerHeader → ℕ × ℕ
 layer_header_value h = (h.content_type, h.content_hint)
 
--- a body of a layer that ends at an offset of the stream
-abbrev pub content_in : layer.Layer → LayerHeader → ℕ → List ℕ → spec.Content View
-content_in l h end body =
-    spec.content_of l (end - length body) (length body) h.content_type h.content_hint (spec.read_body l h.content_type body)
+-- a body of a packet of a layer, which starts at an offset of the stream
+abbrev pub content_in : layer.Layer → LayerHeader → (at : ℕ) → List ℕ → spec.Content View
+content_in l h at body =
+    spec.content_of l (at + layer.header_length l) (length body) h.content_type h.content_hint (spec.read_body l h.content_type body)
 
 -- a message's kind, its fields and its content hint
 abbrev pub message_kind : Message → kind.Kind

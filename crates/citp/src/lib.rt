@@ -1,7 +1,7 @@
 // The walk over a stream of packets: one step, its report, and the body that a report speaks of.
 #![tactic(auto)]
 
-ghost use Rattle.std.specs.Prelude.{◌≡◌, ◌-◌, ◌≤◌, length, take, IfOk, IfSome};
+ghost use Rattle.std.specs.Prelude.{◌≡◌, ◌+◌, ◌^◌, ◌<◌, ◌≤◌, length, take, IfOk, IfSome};
 ghost use Rattle.protocol.specs.Kind.{layer as layer_of_kind};
 ghost use Rattle.protocol.specs.Layer.{cookie, header_length, hinted, layer_header};
 ghost use Rattle.format.specs.View.{view};
@@ -102,7 +102,7 @@ fn layer_header(layer: Layer, packet: &[u8]) -> Result<(LayerHeader, wire::Curso
     ))
 }
 
-// ---- one packet, cut out of the stream, which ends at an offset of it
+// ---- one packet, cut out of the stream, which starts at an offset of it
 
 impl Message {
     // The body of a packet of a layer; none where its content type is of no kind that is read.
@@ -144,13 +144,14 @@ impl Message {
     }
 }
 
-fn body_report(layer: Layer, h: LayerHeader, end: usize, body: &[u8]) -> Report
-    ensures { report_says result ≡ content_in (layer_is layer) h end body.now }
+fn body_report(layer: Layer, h: LayerHeader, at: usize, body: &[u8]) -> Report
+    requires { at + header_length (layer_is layer) < 2 ^ 64 }
+    ensures { report_says result ≡ content_in (layer_is layer) h at body.now }
 {
     match Message::read_from_bytes(layer, h, body) {
         Ok(Some((m, c))) => Report::Message(
             m,
-            end.saturating_sub(body.len()),
+            at + layer.header_length(),
             body.len().saturating_sub(c.at),
         ),
         Ok(None) => Report::UnknownKind(layer.cookie(), h.content_type),
@@ -158,9 +159,9 @@ fn body_report(layer: Layer, h: LayerHeader, end: usize, body: &[u8]) -> Report
     }
 }
 
-fn layer_report(layer: Layer, end: usize, packet: &[u8]) -> Report
-    requires { length packet.now ≤ end }
-    ensures { report_says result ≡ read_layer (end - length packet.now) (cookie (layer_is layer)) packet.now (some (layer_is layer)) }
+fn layer_report(layer: Layer, at: usize, packet: &[u8]) -> Report
+    requires { at + length packet.now < 2 ^ 64 }
+    ensures { report_says result ≡ read_layer at (cookie (layer_is layer)) packet.now (some (layer_is layer)) }
 {
     let length = layer.header_length();
     if packet.len() < length {
@@ -169,12 +170,12 @@ fn layer_report(layer: Layer, end: usize, packet: &[u8]) -> Report
     let Ok((h, _)) = layer_header(layer, packet) else {
         return Report::Refused(Refusal::ShortLayerHeader);
     };
-    body_report(layer, h, end, &packet[length..])
+    body_report(layer, h, at, &packet[length..])
 }
 
-fn packet_report(h: Header, end: usize, packet: &[u8]) -> Report
-    requires { length packet.now ≤ end }
-    ensures { report_says result ≡ content_at (end - length packet.now) (header_value h) packet.now }
+fn packet_report(h: Header, at: usize, packet: &[u8]) -> Report
+    requires { at + length packet.now < 2 ^ 64 }
+    ensures { report_says result ≡ content_at at (header_value h) packet.now }
 {
     if 1 < h.message_part_count || 0 < h.message_part {
         return Report::Fragment(h.message_part, h.message_part_count);
@@ -182,7 +183,7 @@ fn packet_report(h: Header, end: usize, packet: &[u8]) -> Report
     let Some(layer) = Layer::of(h.content_type) else {
         return Report::UnknownLayer(h.content_type);
     };
-    layer_report(layer, end, packet)
+    layer_report(layer, at, packet)
 }
 
 // The packet with which the rest of a stream starts.
@@ -235,16 +236,11 @@ impl Message {
 pub fn body_place(report: Report, size: u32) -> Block
     ensures { (result.start, result.len) ≡ body_place size (report_says report) }
 {
-    match report {
-        Report::Message(m, start, _) => Block {
-            start,
-            len: (size as usize).saturating_sub(m.header_length()),
-        },
-        Report::UnknownLayer(_)
-        | Report::UnknownKind(_, _)
-        | Report::Fragment(_, _)
-        | Report::Refused(_) => Block { start: 0, len: 0 },
-    }
+    let Report::Message(m, start, _) = report else {
+        return Block { start: 0, len: 0 };
+    };
+    let len = (size as usize).saturating_sub(m.header_length());
+    Block { start, len }
 }
 
 impl PacketReport {
@@ -265,7 +261,7 @@ impl Cursor {
         Self { at: 0 }
     }
 
-    // The packet at the cursor, with the cursor of the next one; none at the stream's end, and at an offset past it. A refusal ends the walk.
+    // The packet at the cursor and the cursor of the next one; none at the stream's end and past it. A refusal ends the walk.
     pub fn step(self, s: &[u8]) -> Result<Option<(PacketReport, Cursor)>, Refusal>
         ensures { step_says self.at result ≡ step_at s.now self.at }
     {
@@ -274,13 +270,13 @@ impl Cursor {
             return Ok(None);
         }
         let rest = &s[at..];
-        let Ok((h, _)) = Header::read_from_bytes(rest) else {
+        if rest.len() < Header::LENGTH {
             return Err(Refusal::ShortHeader);
-        };
+        }
+        let (h, _) = Header::read_from_bytes(rest).unwrap();
         packet_start(h, rest.len())?;
         let size = h.message_size as usize;
-        let end = at + size;
-        let report = packet_report(h, end, first_packet(rest, size));
+        let report = packet_report(h, at, first_packet(rest, size));
         Ok(Some((
             PacketReport {
                 offset: at,
@@ -288,7 +284,7 @@ impl Cursor {
                 request_index: h.request_index,
                 report,
             },
-            Cursor { at: end },
+            Cursor { at: at + size },
         )))
     }
 }
