@@ -44,7 +44,7 @@ pub extern "C" fn citp_writer_open(
         (λ k. called (opens k request_index content_hint) w out.old) (refused_with w 14, out.old) (kind_at kind) }
 {
     let Some(k) = kind_of(kind) else {
-        return w.refused(Refusal::OutOfTurn);
+        return w.refused(Refusal::OutOfTurn.number());
     };
     w.answer(w.state().open(out, k, request_index, content_hint))
 }
@@ -299,7 +299,7 @@ pub extern "C" fn citp_writer_fixture_list_head(
 {
     match FixtureListMessageType::try_from(message_type) {
         Ok(t) => w.answer(w.state().fixture_list_head(out, t, fixture_count)),
-        Err(refusal) => w.refused(refusal),
+        Err(refusal) => w.refused(refusal.number()),
     }
 }
 
@@ -345,7 +345,7 @@ pub extern "C" fn citp_writer_identifier(
 {
     match IdentifierType::try_from(identifier_type) {
         Ok(t) => w.answer(w.state().identifier(out, t, data)),
-        Err(refusal) => w.refused(refusal),
+        Err(refusal) => w.refused(refusal.number()),
     }
 }
 

@@ -41,6 +41,14 @@ impl Support {
         match report {
             Report::Message(Message::Sdmx(sdmx::Message::ChLs(_)), _, _) => !self.channel_lists,
             Report::Message(Message::Sdmx(sdmx::Message::Sxus(_)), _, _) => !self.external_sources,
+            // the kinds of SDMX that no capability stands for
+            Report::Message(
+                Message::Sdmx(
+                    sdmx::Message::Capa(_) | sdmx::Message::UNam(_) | sdmx::Message::ChBk(_),
+                ),
+                _,
+                _,
+            ) => false,
             _ => false,
         }
     }
@@ -97,6 +105,15 @@ fn walk(offsets: &mut [usize], s: &[u8], support: Support) -> Unsupported
 #[derive(Clone, Copy)]
 pub struct TooFewPlaces {
     pub found: Unsupported,
+}
+
+impl TooFewPlaces {
+    // The number of the call then.
+    pub fn number(self) -> u8
+        ensures { result ≡ 13 }
+    {
+        Refusal::ShortOutput.number()
+    }
 }
 
 // The offsets of a sender's packets that a receiver with these capabilities does not support, into the first places of `offsets`; these stay

@@ -5,7 +5,7 @@
 use book::{Book, Entry};
 use citp::{Cursor, Message, PacketReport, Report};
 use intake::read_all;
-use refusal::Refusal;
+use refusal::{Refusal, end_number};
 
 // ---- the book at the stream's end; a write that fails is not told, here and below
 
@@ -106,7 +106,7 @@ fn walk(stdout: &impl Print, stderr: &impl Print, s: &[u8], entries: &mut [u64])
             end => {
                 show_entries(stdout, book, entries);
                 show_universes(stdout, book, entries);
-                let stop = end.err().map_or(0, Refusal::number);
+                let stop = end_number(end);
                 let _ = println!(stdout; "packets={packets}\nstop={stop}");
                 break;
             }

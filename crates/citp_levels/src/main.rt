@@ -5,7 +5,7 @@
 use citp::{Cursor, Message, PacketReport, Report};
 use dimmer::{CHANNELS, Dimmer};
 use intake::read_all;
-use refusal::Refusal;
+use refusal::{Refusal, end_number};
 use std::env::FillError;
 use std::rt::Env;
 use std::{io, str};
@@ -85,7 +85,7 @@ fn walk(
                 c = next;
             }
             end => {
-                let stop = end.err().map_or(0, Refusal::number);
+                let stop = end_number(end);
                 written &= show_end(stdout, levels, packets, stop).is_ok();
                 break;
             }

@@ -5,7 +5,7 @@
 use capabilities::{Unsupported, list_unsupported};
 use citp::{Cursor, Message, PacketReport, Report};
 use intake::read_all;
-use refusal::Refusal;
+use refusal::end_number;
 use std::env::FillError;
 use std::fmt::InlineText;
 use std::io::ErrorKind;
@@ -21,7 +21,7 @@ fn complain(stderr: &impl Print, what: &str) {
 
 fn show(stdout: &impl Print, found: Unsupported, offsets: &[usize]) -> io::Result<()> {
     let count = found.count;
-    let stop = found.end.err().map_or(0, Refusal::number);
+    let stop = end_number(found.end);
     println!(stdout; "offsets.count={count}")?;
     for offset in offsets.iter().take(count) {
         println!(stdout; "offsets={offset}")?;

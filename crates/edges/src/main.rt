@@ -9,7 +9,7 @@ use capabilities::list_unsupported;
 use citp::{Cursor, Message, PacketReport, Report};
 use fixture::{Fixtures, Identifier, IdentifierType, Identifiers};
 use intake::read_full;
-use refusal::Refusal;
+use refusal::{Refusal, end_number};
 use turns::Kind;
 use writer::Writer;
 
@@ -24,9 +24,8 @@ fn show_refused(stdout: &impl Print, refusal: Refusal) {
 }
 
 // 0 at the stream's end.
-fn show_stop(stdout: &impl Print, refusal: Option<Refusal>) {
-    let stop = refusal.map_or(0, Refusal::number);
-    show(stdout, "  stop", u64::from(stop));
+fn show_stop<T: Copy>(stdout: &impl Print, end: Result<T, Refusal>) {
+    show(stdout, "  stop", u64::from(end_number(end)));
 }
 
 // ---- a packet read
@@ -87,7 +86,7 @@ fn show_packet(stdout: &impl Print, p: PacketReport, s: &[u8]) {
 fn read(stdout: &impl Print, s: &[u8]) {
     match Cursor::new().step(s) {
         Ok(Some((p, _))) => show_packet(stdout, p, s),
-        end => show_stop(stdout, end.err()),
+        end => show_stop(stdout, end),
     }
 }
 
@@ -268,12 +267,12 @@ fn list_edge(stdout: &impl Print, capabilities: &[u16], offsets: &mut [usize]) {
     let sent = SENT;
     show(stdout, "offsets, places", offsets.len() as u64);
     let answer = list_unsupported(capabilities, &sent, offsets);
-    if answer.is_err() {
-        show_refused(stdout, Refusal::ShortOutput);
+    if let Err(few) = answer {
+        show(stdout, "  refused", u64::from(few.number()));
     }
     let found = answer.unwrap_or_else(|few| few.found);
     show(stdout, "  count", found.count as u64);
-    show_stop(stdout, found.end.err());
+    show_stop(stdout, found.end);
     for offset in offsets.iter() {
         show(stdout, "  offset", *offset as u64);
     }

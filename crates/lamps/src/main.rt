@@ -4,7 +4,7 @@
 use citp::{Cursor, Message, PacketReport, Report};
 use fixture::{Fixture, FixtureData, Fixtures};
 use intake::read_full;
-use refusal::Refusal;
+use refusal::end_number;
 
 // A write that fails is not told, here and below.
 fn show_lamp(stdout: &impl Print, lamp: Fixture) {
@@ -25,9 +25,10 @@ fn show_lamp(stdout: &impl Print, lamp: Fixture) {
     );
 }
 
+// The bound is above any count.
 fn show_lamps(stdout: &impl Print, list: Fixtures, body: &[u8]) {
     let mut rest = list;
-    for _ in 0..list.left {
+    for _ in 0..65536 {
         let Ok(Some((lamp, more))) = rest.next(body) else {
             return;
         };
@@ -56,7 +57,7 @@ fn walk(stdout: &impl Print, s: &[u8]) {
                 c = next;
             }
             end => {
-                let stop = end.err().map_or(0, Refusal::number);
+                let stop = end_number(end);
                 let _ = println!(stdout; "packets={packets} stop={stop}");
                 return;
             }

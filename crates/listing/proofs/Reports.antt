@@ -49,11 +49,11 @@ module _ {o o₁ o₂ : List ℕ} {p q r : ℕ} where
   unfolding fragment_report
   put-fragment part count a b d = put_then a (put_then b d)
 
-  pub put-refusal : {from n : ℕ} (number : ℕ) → n ≡ number → Prints from (line (chars "report") (chars "refused")) p o q o₁
-      → Prints from (line (chars "refusal") (decimal n)) q o₁ r o₂
+  pub put-refusal : {from : ℕ} (number : ℕ) → Prints from (line (chars "report") (chars "refused")) p o q o₁
+      → Prints from (line (chars "refusal") (decimal number)) q o₁ r o₂
       → Prints from (refusal_report number) p o r o₂
   unfolding refusal_report
-  put-refusal number e a b = put_then a (rw e at b)
+  put-refusal number a b = put_then a b
 
   pub put-end : {from : ℕ} (packets number : ℕ) → Prints from (line (chars "packets") (decimal packets)) p o q o₁
       → Prints from (line (chars "stop") (decimal number)) q o₁ r o₂

@@ -4,7 +4,6 @@
 
 ghost use Rattle.std.proofs.Math.Option.{none, some};
 ghost use Rattle.text.specs.Prints.{Prints};
-ghost use Rattle.refusal.specs.Number.{number};
 ghost use Rattle.names.specs.Messages.{message_lines};
 ghost use Rattle.citp.specs.Says.{message_kind, message_hint, message_view, report_says, packet_says};
 ghost use Rattle.listing.specs.Listing.{message_report, unknown_report, fragment_report, refusal_report};
@@ -13,7 +12,6 @@ ghost use Rattle.listing.specs.Listing.{content_lines, report_lines, end_lines, 
 use caex_messages::put_caex;
 use citp::{Cursor, Message, PacketReport, Report};
 use messages::put_hinted_message;
-use refusal::Refusal;
 use text::{put_chars_line, put_decimal_line, put_hex_line};
 
 // ---- what a packet holds
@@ -74,11 +72,11 @@ pub fn put_fragment(out: &mut [u8], from: u32, at: usize, part: u16, count: u16)
     put_decimal_line(out, from, at, b"of", count as usize)
 }
 
-pub fn put_refusal(out: &mut [u8], from: u32, at: usize, refusal: Refusal) -> usize
-    ensures { Prints from (refusal_report (number refusal)) at out.old result out.new }
+pub fn put_refusal(out: &mut [u8], from: u32, at: usize, number: u8) -> usize
+    ensures { Prints from (refusal_report number) at out.old result out.new }
 {
     let at = put_chars_line(out, from, at, b"report", b"refused");
-    put_decimal_line(out, from, at, b"refusal", refusal.number() as usize)
+    put_decimal_line(out, from, at, b"refusal", number as usize)
 }
 
 fn put_content(out: &mut [u8], from: u32, at: usize, p: PacketReport, s: &[u8]) -> usize
@@ -95,7 +93,7 @@ fn put_content(out: &mut [u8], from: u32, at: usize, p: PacketReport, s: &[u8]) 
             content_type,
         ),
         Report::Fragment(part, count) => put_fragment(out, from, at, part, count),
-        Report::Refused(refusal) => put_refusal(out, from, at, refusal),
+        Report::Refused(refusal) => put_refusal(out, from, at, refusal.number()),
     }
 }
 

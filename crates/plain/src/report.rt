@@ -90,37 +90,37 @@ fn packet(p: PacketReport, next: usize) -> StepAnswer
 fn report(p: PacketReport, next: usize) -> StepAnswer
     ensures { result ≡ flat_report (packet_says p) next }
 {
-    let packet = packet(p, next);
+    let mut r = packet(p, next);
     match p.report {
-        Report::Message(m, _, added) => StepAnswer {
-            report: 1,
-            kind: kind(m) as u8,
-            content_hint: content_hint(m),
-            added,
-            ..packet
-        },
-        Report::UnknownLayer(layer) => StepAnswer {
-            report: 2,
-            layer,
-            ..packet
-        },
-        Report::UnknownKind(layer, content_type) => StepAnswer {
-            report: 3,
-            layer,
-            content_type,
-            ..packet
-        },
-        Report::Fragment(part, part_count) => StepAnswer {
-            report: 4,
-            part,
-            part_count,
-            ..packet
-        },
-        Report::Refused(refusal) => StepAnswer {
-            report: 5,
-            number: refusal.number(),
-            ..packet
-        },
+        Report::Message(m, _, added) => {
+            r.report = 1;
+            r.kind = kind(m) as u8;
+            r.content_hint = content_hint(m);
+            r.added = added;
+            r
+        }
+        Report::UnknownLayer(layer) => {
+            r.report = 2;
+            r.layer = layer;
+            r
+        }
+        Report::UnknownKind(layer, content_type) => {
+            r.report = 3;
+            r.layer = layer;
+            r.content_type = content_type;
+            r
+        }
+        Report::Fragment(part, part_count) => {
+            r.report = 4;
+            r.part = part;
+            r.part_count = part_count;
+            r
+        }
+        Report::Refused(refusal) => {
+            r.report = 5;
+            r.number = refusal.number();
+            r
+        }
     }
 }
 

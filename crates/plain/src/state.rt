@@ -1,6 +1,5 @@
 // The packet writer's state as plain fields, as narrow as what is counted: any values are a state.
 ghost use Rattle.std.specs.Prelude.{◌≡◌};
-ghost use Rattle.refusal.specs.Number.{number as refusal_number};
 ghost use Rattle.turns.specs.Says.{turn_is};
 ghost use Rattle.writer.specs.Says.{state_of};
 ghost use Rattle.plain.specs.State.{kind_at, kind_says, turn_at, state_is, flat_state, answer_of, refused_with};
@@ -109,16 +108,16 @@ impl WriterState {
                 writer: WriterState::of(next),
                 number: 0,
             },
-            Err(refusal) => self.refused(refusal),
+            Err(refusal) => self.refused(refusal.number()),
         }
     }
 
-    pub fn refused(self, refusal: Refusal) -> WriterAnswer
-        ensures { result ≡ refused_with self (refusal_number refusal) }
+    pub fn refused(self, number: u8) -> WriterAnswer
+        ensures { result ≡ refused_with self number }
     {
         WriterAnswer {
             writer: self,
-            number: refusal.number(),
+            number,
         }
     }
 }

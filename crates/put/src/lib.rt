@@ -1,7 +1,7 @@
 // Writes values at a place of lent output, sizes them, and weighs whether a write is taken.
 #![tactic(auto)]
 
-ghost use Rattle.std.specs.Prelude.{ℕ, ◌+◌, ◌*◌, ◌≡◌, [], ◌∷◌, map, length, leb};
+ghost use Rattle.std.specs.Prelude.{ℕ, ◌+◌, ◌*◌, ◌≤◌, ◌≡◌, [], ◌∷◌, map, length, leb};
 ghost use Rattle.std.proofs.Common.{refl};
 ghost use Rattle.format.specs.Format.{Format, Value, number, cstring, ucs2, list, encode, concat_map, size};
 ghost use Rattle.format.specs.Fault.{has_zero};
@@ -9,7 +9,7 @@ ghost use Rattle.put.specs.Faults.{and_of, and_long};
 ghost use Rattle.format.proofs.Passing.{Plain};
 ghost use Rattle.format.proofs.Width.{width};
 ghost use Rattle.refusal.specs.Says.{number_says};
-ghost use Rattle.put.specs.Put.{Puts, Writes, capped, Weighs};
+ghost use Rattle.put.specs.Put.{Puts, Writes, Weighs};
 
 use refusal::Refusal;
 
@@ -101,6 +101,11 @@ pub trait ToBytes: Copy {
 
     const WIDTH: usize;
 
+    // The bytes of values: no slice of them is longer than memory.
+    fn bytes(values: &[Self]) -> usize
+        ensures number { result ≡ length values.now * WIDTH }
+        ensures fits { result ≤ 9223372036854775807 };
+
     fn put(self, out: &mut [u8], at: usize) -> usize
         ensures { Writes format (value self) at out.old result out.new };
 
@@ -117,6 +122,10 @@ impl ToBytes for u8 {
     ghost WIDTH = { 1 };
 
     const WIDTH: usize = 1;
+
+    fn bytes(values: &[u8]) -> usize {
+        values.len() * Self::WIDTH
+    }
 
     fn put(self, out: &mut [u8], at: usize) -> usize {
         put_u8(out, at, self)
@@ -136,6 +145,10 @@ impl ToBytes for u16 {
 
     const WIDTH: usize = 2;
 
+    fn bytes(values: &[u16]) -> usize {
+        values.len() * Self::WIDTH
+    }
+
     fn put(self, out: &mut [u8], at: usize) -> usize {
         put_u16(out, at, self)
     }
@@ -153,6 +166,10 @@ impl ToBytes for u32 {
     ghost WIDTH = { 4 };
 
     const WIDTH: usize = 4;
+
+    fn bytes(values: &[u32]) -> usize {
+        values.len() * Self::WIDTH
+    }
 
     fn put(self, out: &mut [u8], at: usize) -> usize {
         put_u32(out, at, self)
@@ -306,9 +323,8 @@ pub fn ucs2_size(units: &[u16]) -> usize
     units.len() * 2 + 2
 }
 
-// At most usize::MAX.
 pub fn list_size<T: ToBytes>(values: &[T]) -> usize
-    ensures { result ≡ capped (size (list 2 T.format) (map T.value values.now)) }
+    ensures { result ≡ size (list 2 T.format) (map T.value values.now) }
 {
-    values.len().saturating_mul(T::WIDTH).saturating_add(2)
+    T::bytes(values) + 2
 }

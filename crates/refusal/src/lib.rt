@@ -3,6 +3,7 @@
 
 ghost use Rattle.std.specs.Prelude.{◌≡◌};
 ghost use Rattle.refusal.specs.Number.{number};
+ghost use Rattle.refusal.specs.Says.{number_says};
 
 #[derive(Clone, Copy, PartialEq, Eq, Debug)]
 pub enum Refusal {
@@ -57,5 +58,15 @@ impl Refusal {
         ensures { result ≡ number self }
     {
         self as u8
+    }
+}
+
+// 0, or the number of the refusal: how a walk ends.
+pub fn end_number<T: Copy>(end: Result<T, Refusal>) -> u8
+    ensures { result ≡ number_says end }
+{
+    match end {
+        Ok(_) => 0,
+        Err(refusal) => refusal.number(),
     }
 }

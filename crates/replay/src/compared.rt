@@ -89,7 +89,7 @@ impl Compared {
         x
     }
 
-    // ---- lists: a 1 before each item, a 0 behind the last
+    // ---- lists: a 1 before each item, a 0 behind the last; the bound is above any count
 
     pub(crate) fn list<T: Canonical, N: Count>(
         self,
@@ -99,14 +99,14 @@ impl Compared {
     ) -> Compared {
         let mut x = self;
         let mut rest = list;
-        for _ in 0..list.left.items() {
+        for _ in 0..65536 {
             let Ok(Some((item, more))) = rest.next(body) else {
-                break;
+                return x.u8(due, 0);
             };
             x = item.compared(x.u8(due, 1), due, body);
             rest = more;
         }
-        x.u8(due, 0)
+        x
     }
 
     // ---- fixtures

@@ -234,6 +234,10 @@ impl ToBytes for ChannelLevel {
 
     const WIDTH: usize = ChannelLevel::WIDTH;
 
+    fn bytes(values: &[ChannelLevel]) -> usize {
+        values.len() * ChannelLevel::WIDTH
+    }
+
     fn put(self, out: &mut [u8], at: usize) -> usize {
         let at = put_u8(out, at, self.universe_index);
         let at = put_u16(out, at, self.channel);

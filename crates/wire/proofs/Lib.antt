@@ -5,3 +5,4 @@ pub mod Blocks
 pub mod Copying
 pub mod Says
 pub mod Reading
+pub mod Plain

@@ -173,8 +173,11 @@ module _ (s : List ℕ) (at m : ℕ) where
   pub cstring-19 : {n : ℕ} → Some n ≡ bytes_to_zero (drop at s) → m < n → missed 19 ≡ view (cstring m) s at
   cstring-19 e h = let b = bytes-ended (drop at s) e in cstring-over s at m b.0 (omega (arith, b.0, b.1, length-drop at s)) h
 
-  pub cstring-taken : {n : ℕ} → Some n ≡ bytes_to_zero (drop at s) → n ≤ m → seen (at, n) (at + n + 1) ≡ view (cstring m) s at
-  cstring-taken e h = let b = bytes-ended (drop at s) e in cstring-there s at m b.0 (omega (arith, b.0, b.1, length-drop at s)) h
+  pub cstring-taken : {n : ℕ} → Some n ≡ bytes_to_zero (drop at s) → n ≤ m → (seen (at, n) (at + n + 1) ≡ view (cstring m) s at) × (at + n + 1 ≤ length s)
+  cstring-taken e h =
+      let b = bytes-ended (drop at s) e in
+      let l = length-drop at s in
+      (cstring-there s at m b.0 (omega (arith, b.0, b.1, l)) h, omega (arith, b.0, b.1, l))
 
   pub ucs2-8 : None ≡ units_to_zero (drop at s) → missed 8 ≡ view (ucs2 m) s at
   ucs2-8 e = ucs2-none s at m {n = units_before_zero (drop at s)} refl (omega (arith, units-unended (drop at s) e, length-drop at s))
@@ -182,5 +185,8 @@ module _ (s : List ℕ) (at m : ℕ) where
   pub ucs2-19 : {n : ℕ} → Some n ≡ units_to_zero (drop at s) → m < n → missed 19 ≡ view (ucs2 m) s at
   ucs2-19 e h = let b = units-ended (drop at s) e in ucs2-over s at m b.0 (omega (arith, b.0, b.1, length-drop at s)) h
 
-  pub ucs2-taken : {n : ℕ} → Some n ≡ units_to_zero (drop at s) → n ≤ m → seen (at, n) (at + 2 * n + 2) ≡ view (ucs2 m) s at
-  ucs2-taken e h = let b = units-ended (drop at s) e in ucs2-there s at m b.0 (omega (arith, b.0, b.1, length-drop at s)) h
+  pub ucs2-taken : {n : ℕ} → Some n ≡ units_to_zero (drop at s) → n ≤ m → (seen (at, n) (at + 2 * n + 2) ≡ view (ucs2 m) s at) × (at + 2 * n + 2 ≤ length s)
+  ucs2-taken e h =
+      let b = units-ended (drop at s) e in
+      let l = length-drop at s in
+      (ucs2-there s at m b.0 (omega (arith, b.0, b.1, l)) h, omega (arith, b.0, b.1, l))

@@ -96,7 +96,7 @@ pub trait Item: Copy {
 pub struct List<T, N> {
     pub at: usize,
     pub left: N,
-    of: PhantomData<T>,
+    pub of: PhantomData<T>,
 }
 
 impl<T: Item, N: Count> List<T, N> {

@@ -62,7 +62,7 @@ outcome-settled c w o (suc n) s = refl
 -- ---- a part
 
 -- a body or an item; or a head, the count behind it
-abbrev put_layout : Layout → (at : ℕ) (o : List ℕ) → Answer × List ℕ
+abbrev pub put_layout : Layout → (at : ℕ) (o : List ℕ) → Answer × List ℕ
 put_layout (plain f v) at o = put_at f v at o
 put_layout (counted f v w n) at o = put_head f v w n at o
 

@@ -1,4 +1,4 @@
-use Rattle.listing.proofs.Reports.{contents}
+use Rattle.listing.proofs.Reports.{contents, content-refusal}
 use Rattle.listing.proofs.put_content.Goals as goal
 
 pub returns-in-Message : goal.returns-in-Message
@@ -14,4 +14,4 @@ pub returns-in-Fragment : goal.returns-in-Fragment
 returns-in-Fragment c = search contents
 
 pub returns-in-Refused : goal.returns-in-Refused
-returns-in-Refused c = search contents
+returns-in-Refused c = content-refusal c.args.s.now c.args.p c.in-Refused.is (rw c.number.ensures at c.put_refusal.ensures)

@@ -8,4 +8,4 @@ pub returns-then-limit-len : goal.returns-then-limit-len
 returns-then-limit-len c = cstring-19 _ _ _ c.in-Some.ensures c.if-limit-len.true
 
 pub returns : goal.returns
-returns c = cstring-taken _ _ _ c.in-Some.ensures c.if-limit-len.false
+returns c = (cstring-taken _ _ _ c.in-Some.ensures c.if-limit-len.false).0

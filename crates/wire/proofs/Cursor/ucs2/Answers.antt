@@ -8,4 +8,4 @@ pub returns-then-limit-n : goal.returns-then-limit-n
 returns-then-limit-n c = ucs2-19 _ _ _ c.in-Some.ensures c.if-limit-n.true
 
 pub returns : goal.returns
-returns c = ucs2-taken _ _ _ c.in-Some.ensures c.if-limit-n.false
+returns c = (ucs2-taken _ _ _ c.in-Some.ensures c.if-limit-n.false).0
