@@ -39,16 +39,12 @@ impl Support {
         ensures { result ≡ is_message_of (lacked_by self) (report_says report) }
     {
         match report {
-            Report::Message(Message::Sdmx(sdmx::Message::ChLs(_)), _, _) => !self.channel_lists,
-            Report::Message(Message::Sdmx(sdmx::Message::Sxus(_)), _, _) => !self.external_sources,
-            // the kinds of SDMX that no capability stands for
-            Report::Message(
-                Message::Sdmx(
-                    sdmx::Message::Capa(_) | sdmx::Message::UNam(_) | sdmx::Message::ChBk(_),
-                ),
-                _,
-                _,
-            ) => false,
+            Report::Message(Message::Sdmx(m), _, _) => match m {
+                sdmx::Message::ChLs(_) => !self.channel_lists,
+                sdmx::Message::Sxus(_) => !self.external_sources,
+                // the kinds that no capability stands for
+                sdmx::Message::Capa(_) | sdmx::Message::UNam(_) | sdmx::Message::ChBk(_) => false,
+            },
             _ => false,
         }
     }

@@ -54,14 +54,14 @@ content_read (spec.message k start hint v added) = content.Message (message_of (
 content_read (spec.unknown c math.none) = content.UnknownLayer c
 content_read (spec.unknown c (math.some type)) = content.UnknownKind c type
 content_read (spec.fragment part count) = content.Fragment part count
-content_read (spec.refusal n) = content.Refused (refusal_of n)
+content_read (spec.refusal n) = content.Refused n
 
 pub report-exact : (r : Report) → r ≡ content_read (report_says r)
 report-exact (content.Message m start added) = ap (λ (x : Message). content.Message x start added) (message-exact m)
 report-exact (content.UnknownLayer c) = refl
 report-exact (content.UnknownKind c type) = refl
 report-exact (content.Fragment part count) = refl
-report-exact (content.Refused r) = ap (λ (x : Refusal). content.Refused x) (refusal-exact r)
+report-exact (content.Refused n) = refl
 
 abbrev packet_read : spec.Report View → PacketReport
 packet_read r = record { offset = r.offset; size = r.size; request_index = r.request; report = content_read r.content }

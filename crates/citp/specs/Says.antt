@@ -62,16 +62,20 @@ report_says (content.Message m start added) = spec.message (message_kind m) star
 report_says (content.UnknownLayer c) = spec.unknown c math.none
 report_says (content.UnknownKind c type) = spec.unknown c (math.some type)
 report_says (content.Fragment part count) = spec.fragment part count
-report_says (content.Refused r) = spec.refusal (number r)
+report_says (content.Refused n) = spec.refusal n
 
 abbrev pub packet_says : PacketReport → spec.Report View
 packet_says r = record { offset = r.offset; size = r.size; request = r.request_index; content = report_says r.report }
 
--- a step at an offset: the walk ends there where no packet is reported
+-- a step at an offset, by what tells why it stops: the walk ends there where no packet is reported
+abbrev pub step_told : {R : Type 0} → (R → ℕ) → (at : ℕ) → Result (Option (PacketReport × Cursor)) R → walk.Step (spec.Report View)
+step_told told at (Ok (Some x)) = report (packet_says x.0) x.1.at
+step_told told at (Ok None) = stop 0 at
+step_told told at (Err r) = stop (told r) at
+
+-- a refusal by its number
 abbrev pub step_says : (at : ℕ) → Result (Option (PacketReport × Cursor)) Refusal → walk.Step (spec.Report View)
-step_says at (Ok (Some x)) = report (packet_says x.0) x.1.at
-step_says at (Ok None) = stop 0 at
-step_says at (Err r) = stop (number r) at
+step_says at r = step_told number at r
 
 -- where the body of a message stands in the stream, and its length with added bytes; of other reports nothing
 abbrev pub body_place : ℕ → spec.Content View → ℕ × ℕ

@@ -50,8 +50,8 @@ pub enum Report {
     UnknownKind(u32, u32),
     // its part and the count of parts
     Fragment(u16, u16),
-    // of its layer header or its body
-    Refused(Refusal),
+    // of its layer header or its body, a number: 6 to 10, or 19
+    Refused(u8),
 }
 
 // A packet's offset in the stream, its size, its request_index and what it holds.
@@ -155,7 +155,7 @@ fn body_report(layer: Layer, h: LayerHeader, at: usize, body: &[u8]) -> Report
             body.len().saturating_sub(c.at),
         ),
         Ok(None) => Report::UnknownKind(layer.cookie(), h.content_type),
-        Err(r) => Report::Refused(r),
+        Err(r) => Report::Refused(r.number()),
     }
 }
 
@@ -165,10 +165,10 @@ fn layer_report(layer: Layer, at: usize, packet: &[u8]) -> Report
 {
     let length = layer.header_length();
     if packet.len() < length {
-        return Report::Refused(Refusal::ShortLayerHeader);
+        return Report::Refused(Refusal::ShortLayerHeader.number());
     }
     let Ok((h, _)) = layer_header(layer, packet) else {
-        return Report::Refused(Refusal::ShortLayerHeader);
+        return Report::Refused(Refusal::ShortLayerHeader.number());
     };
     body_report(layer, h, at, &packet[length..])
 }

@@ -6,12 +6,21 @@ use book::{Book, Entry};
 use citp::{Cursor, Message, PacketReport, Report};
 use intake::read_all;
 use refusal::{Refusal, end_number};
+use std::fmt::Display;
 
-// ---- the book at the stream's end; a write that fails is not told, here and below
+// ---- lines: a key, its number and the end, a write each, of which one that fails is not told
+
+fn show(stdout: &impl Print, key: &str, number: impl Display + Copy) {
+    let _ = stdout.write_all(key.as_bytes());
+    let _ = stdout.print(number);
+    let _ = stdout.write_all(b"\n");
+}
+
+// ---- the book at the stream's end
 
 fn show_entries(stdout: &impl Print, book: Book, entries: &[u64]) {
     let held = book.held(entries);
-    let _ = println!(stdout; "entries={held}");
+    show(stdout, "entries=", held);
     for k in 0..held {
         let Some(
             Entry {
@@ -24,9 +33,10 @@ fn show_entries(stdout: &impl Print, book: Book, entries: &[u64]) {
         else {
             return;
         };
-        let _ = println!(stdout;
-            "fixture_identifier={fixture_identifier}\nuniverse={universe}\nchannel={channel}\nchannel_count={channel_count}"
-        );
+        show(stdout, "fixture_identifier=", fixture_identifier);
+        show(stdout, "universe=", universe);
+        show(stdout, "channel=", channel);
+        show(stdout, "channel_count=", channel_count);
     }
 }
 
@@ -36,18 +46,21 @@ fn show_universe(stdout: &impl Print, book: Book, entries: &[u64], universe: u16
     if taken == 0 {
         return;
     }
-    let _ = println!(stdout; "universe={universe}\ntaken={taken}");
-    let _ = match book.first_free(entries, universe) {
-        Some(channel) => println!(stdout; "first_free={channel}"),
-        None => println!(stdout; "first_free=none"),
-    };
+    show(stdout, "universe=", universe);
+    show(stdout, "taken=", taken);
+    match book.first_free(entries, universe) {
+        Some(channel) => show(stdout, "first_free=", channel),
+        None => {
+            let _ = println!(stdout; "first_free=none");
+        }
+    }
 }
 
 fn show_universes(stdout: &impl Print, book: Book, entries: &[u64]) {
     let universes = (0..256)
         .filter(|universe| book.taken(entries, *universe) != 0)
         .count();
-    let _ = println!(stdout; "universes={universes}");
+    show(stdout, "universes=", universes);
     for universe in 0..256 {
         show_universe(stdout, book, entries, universe);
     }
@@ -65,8 +78,9 @@ fn shown(
     match answer {
         Ok(book) => Some(book),
         Err(refusal) => {
-            let number = refusal.number();
-            let _ = println!(stdout; "at={at}\nkind={kind}\nrefusal={number}");
+            show(stdout, "at=", at);
+            let _ = println!(stdout; "kind={kind}");
+            show(stdout, "refusal=", refusal.number());
             None
         }
     }
@@ -106,8 +120,8 @@ fn walk(stdout: &impl Print, stderr: &impl Print, s: &[u8], entries: &mut [u64])
             end => {
                 show_entries(stdout, book, entries);
                 show_universes(stdout, book, entries);
-                let stop = end_number(end);
-                let _ = println!(stdout; "packets={packets}\nstop={stop}");
+                show(stdout, "packets=", packets);
+                show(stdout, "stop=", end_number(end));
                 break;
             }
         }

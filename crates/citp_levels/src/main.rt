@@ -7,6 +7,7 @@ use dimmer::{CHANNELS, Dimmer};
 use intake::read_all;
 use refusal::{Refusal, end_number};
 use std::env::FillError;
+use std::fmt::Display;
 use std::rt::Env;
 use std::{io, str};
 
@@ -17,17 +18,25 @@ fn complain(stderr: &impl Print, what: &str) {
     let _ = println!(stderr; "citp_levels: {what}");
 }
 
+// A key, its number and the end, a write each, up to one that fails.
+fn show(stdout: &impl Print, key: &str, number: impl Display + Copy) -> io::Result<()> {
+    stdout.write_all(key.as_bytes())?;
+    stdout.print(number)?;
+    stdout.write_all(b"\n")
+}
+
 fn show_end(
     stdout: &impl Print,
     levels: &[u8; CHANNELS],
     packets: u64,
     stop: u8,
 ) -> io::Result<()> {
-    println!(stdout; "levels.count={CHANNELS}")?;
+    show(stdout, "levels.count=", CHANNELS)?;
     for level in levels {
-        println!(stdout; "levels={level}")?;
+        show(stdout, "levels=", *level)?;
     }
-    println!(stdout; "packets={packets}\nstop={stop}")
+    show(stdout, "packets=", packets)?;
+    show(stdout, "stop=", stop)
 }
 
 // A message is shown where it is refused.
@@ -40,8 +49,9 @@ fn show_refused(
     let Err(refusal) = answer else {
         return Ok(());
     };
-    let number = refusal.number();
-    println!(stdout; "at={at}\nkind={kind}\nrefusal={number}")
+    show(stdout, "at=", at)?;
+    println!(stdout; "kind={kind}")?;
+    show(stdout, "refusal=", refusal.number())
 }
 
 // ---- the stream

@@ -7,7 +7,7 @@ use citp::{Cursor, Message, PacketReport, Report};
 use intake::read_all;
 use refusal::end_number;
 use std::env::FillError;
-use std::fmt::InlineText;
+use std::fmt::{Display, InlineText};
 use std::io::ErrorKind;
 use std::rt::{Env, Files};
 use std::{fs, io, str};
@@ -19,14 +19,20 @@ fn complain(stderr: &impl Print, what: &str) {
     let _ = println!(stderr; "citp_unsupported: {what}");
 }
 
+// A key, its number and the end, a write each, up to one that fails.
+fn line(stdout: &impl Print, key: &str, number: impl Display + Copy) -> io::Result<()> {
+    stdout.write_all(key.as_bytes())?;
+    stdout.print(number)?;
+    stdout.write_all(b"\n")
+}
+
 fn show(stdout: &impl Print, found: Unsupported, offsets: &[usize]) -> io::Result<()> {
     let count = found.count;
-    let stop = end_number(found.end);
-    println!(stdout; "offsets.count={count}")?;
+    line(stdout, "offsets.count=", count)?;
     for offset in offsets.iter().take(count) {
-        println!(stdout; "offsets={offset}")?;
+        line(stdout, "offsets=", *offset)?;
     }
-    println!(stdout; "stop={stop}")
+    line(stdout, "stop=", end_number(found.end))
 }
 
 // ---- the receiver's capabilities
@@ -89,7 +95,9 @@ fn fail_with(stderr: &impl Print, name: &[u8], error: io::Error) {
     let text = InlineText::<128>::of(error);
     let _ = stderr.write_all(b"citp_unsupported: ");
     let _ = stderr.write_all(name);
-    let _ = println!(stderr; ": cannot be read: {}", words(text.as_str()));
+    let _ = stderr.write_all(b": cannot be read: ");
+    let _ = stderr.write_all(words(text.as_str()).as_bytes());
+    let _ = println!(stderr);
 }
 
 // The bytes of a file, whose name has to be text.

@@ -13,14 +13,16 @@ use refusal::{Refusal, end_number};
 use turns::Kind;
 use writer::Writer;
 
-// ---- lines of a label and a number: what is written, and, set in, what an edge gives
+// ---- lines of a label and a number, three writes each: what is written, and, set in, what an edge gives
 
 fn show(stdout: &impl Print, label: &str, number: u64) {
-    let _ = println!(stdout; "{label:<24}{number}");
+    let _ = print!(stdout; "{label:<24}");
+    let _ = print!(stdout; "{number}");
+    let _ = println!(stdout);
 }
 
-fn show_refused(stdout: &impl Print, refusal: Refusal) {
-    show(stdout, "  refused", u64::from(refusal.number()));
+fn show_refused(stdout: &impl Print, number: u8) {
+    show(stdout, "  refused", u64::from(number));
 }
 
 // 0 at the stream's end.
@@ -79,7 +81,7 @@ fn show_packet(stdout: &impl Print, p: PacketReport, s: &[u8]) {
         Report::UnknownLayer(_) => show(stdout, "  unknown layer, size", p.size as u64),
         Report::UnknownKind(_, _) => show(stdout, "  unknown kind, size", p.size as u64),
         Report::Fragment(part, _) => show(stdout, "  fragment, part", part as u64),
-        Report::Refused(refusal) => show_refused(stdout, refusal),
+        Report::Refused(number) => show_refused(stdout, number),
     }
 }
 
@@ -133,6 +135,7 @@ impl Packet {
 }
 
 // Each line as it stands, and what the packet gives that is behind its `=`.
+#[inline(never)]
 fn read_edges(stdout: &impl Print, s: &[u8]) {
     let mut packet: Option<Packet> = None;
     for c in s {
@@ -154,7 +157,7 @@ fn read_edges(stdout: &impl Print, s: &[u8]) {
 fn show_written(stdout: &impl Print, answer: Result<usize, Refusal>) {
     match answer {
         Ok(size) => show(stdout, "  written, size", size as u64),
-        Err(refusal) => show_refused(stdout, refusal),
+        Err(refusal) => show_refused(stdout, refusal.number()),
     }
 }
 
@@ -217,6 +220,8 @@ fn write(stdout: &impl Print, out: &mut [u8], kind: Kind, count: usize) {
     }
 }
 
+// (within `main` its buffer would stand beside the one of `identifier_edge`, as the packet of `read_edges` would)
+#[inline(never)]
 fn packet_edge(stdout: &impl Print, items: &str, kind: Kind, count: usize, room: usize)
     requires { room ≤ 131096 }
 {
@@ -268,7 +273,7 @@ fn list_edge(stdout: &impl Print, capabilities: &[u16], offsets: &mut [usize]) {
     show(stdout, "offsets, places", offsets.len() as u64);
     let answer = list_unsupported(capabilities, &sent, offsets);
     if let Err(few) = answer {
-        show(stdout, "  refused", u64::from(few.number()));
+        show_refused(stdout, few.number());
     }
     let found = answer.unwrap_or_else(|few| few.found);
     show(stdout, "  count", found.count as u64);

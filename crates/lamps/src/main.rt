@@ -5,8 +5,14 @@ use citp::{Cursor, Message, PacketReport, Report};
 use fixture::{Fixture, FixtureData, Fixtures};
 use intake::read_full;
 use refusal::end_number;
+use std::fmt::Display;
 
-// A write that fails is not told, here and below.
+// A key and its number, a write each. One that fails is not told, here and below.
+fn show(stdout: &impl Print, key: &str, number: impl Display + Copy) {
+    let _ = stdout.write_all(key.as_bytes());
+    let _ = stdout.print(number);
+}
+
 fn show_lamp(stdout: &impl Print, lamp: Fixture) {
     let Fixture {
         fixture_identifier,
@@ -20,9 +26,12 @@ fn show_lamp(stdout: &impl Print, lamp: Fixture) {
         universe_channel,
         ..
     } = data;
-    let _ = println!(stdout;
-        "lamp={fixture_identifier} patched={patched} universe={universe} channel={universe_channel} channels={channel_count}"
-    );
+    show(stdout, "lamp=", fixture_identifier);
+    show(stdout, " patched=", patched);
+    show(stdout, " universe=", universe);
+    show(stdout, " channel=", universe_channel);
+    show(stdout, " channels=", channel_count);
+    let _ = stdout.write_all(b"\n");
 }
 
 // The bound is above any count.
@@ -45,6 +54,12 @@ fn fixtures_of(p: PacketReport) -> Option<Fixtures> {
     Some(list.fixtures)
 }
 
+fn show_end(stdout: &impl Print, packets: u64, stop: u8) {
+    show(stdout, "packets=", packets);
+    show(stdout, " stop=", stop);
+    let _ = stdout.write_all(b"\n");
+}
+
 // A packet has 20 bytes or more, so the stream ends before the bound.
 fn walk(stdout: &impl Print, s: &[u8]) {
     let mut c = Cursor::new();
@@ -57,8 +72,7 @@ fn walk(stdout: &impl Print, s: &[u8]) {
                 c = next;
             }
             end => {
-                let stop = end_number(end);
-                let _ = println!(stdout; "packets={packets} stop={stop}");
+                show_end(stdout, packets, end_number(end));
                 return;
             }
         }

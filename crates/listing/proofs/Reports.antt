@@ -8,8 +8,6 @@ use Rattle.protocol.specs.Kind.{Kind, body_of}
 use Rattle.text.specs.Prints.{Prints}
 use Rattle.text.proofs.Prints.{put_then}
 use Rattle.text.specs.Text.{chars, decimal, hex, line}
-use Rattle.refusal.specs.Number.{number}
-use Rattle.refusal.specs.declared.Refusal.{Refusal}
 use Rattle.names.specs.Messages.{message_lines}
 use Rattle.citp.specs.Says.{message_kind, message_hint, message_view, report_says, packet_says, body_of_report}
 use Rattle.citp.specs.declared.Message.{Message}
@@ -86,7 +84,7 @@ module _ (s : List ℕ) (x : PacketReport) {o o' : List ℕ} {p r : ℕ} where
   unfolding content_lines
   content-fragment e a = rw e a
 
-  pub content-refusal : {from : ℕ} {n : Refusal} → x.report ≡ content.Refused n → Prints from (refusal_report (number n)) p o r o'
+  pub content-refusal : {from : ℕ} {number : ℕ} → x.report ≡ content.Refused number → Prints from (refusal_report number) p o r o'
       → Prints from (content_lines s x.size (report_says x.report)) p o r o'
   unfolding content_lines
   content-refusal e a = rw e a

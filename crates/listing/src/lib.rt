@@ -93,7 +93,7 @@ fn put_content(out: &mut [u8], from: u32, at: usize, p: PacketReport, s: &[u8]) 
             content_type,
         ),
         Report::Fragment(part, count) => put_fragment(out, from, at, part, count),
-        Report::Refused(refusal) => put_refusal(out, from, at, refusal.number()),
+        Report::Refused(number) => put_refusal(out, from, at, number),
     }
 }
 

@@ -37,10 +37,10 @@ abbrev left_by : WriterState → Outcome → WriterAnswer × List ℕ
 left_by w r = (settled_with w r.number r.writer, r.output)
 
 left-by : (w : WriterState) (s : Writer) (r : Result Writer Refusal) (o : List ℕ)
-    → ◌≡◌ {A = WriterAnswer × List ℕ} (answer_of w r, o) (left_by w (written_says s r o))
+    → ◌≡◌ {A = WriterAnswer × List ℕ} (answer_of number w r, o) (left_by w (written_says s r o))
 left-by w s (Ok v) o = refl
 left-by w s (Err r) o = refused-is (refused-with w (number r) (state_of s) (never-none r))
 
 pub call-is : (c : Call) (w : WriterState) (o : List ℕ) (s : Writer) (r : Result Writer Refusal) {after : List ℕ} {x : WriterAnswer}
-    → state_of s ≡ state_is w → written_says s r after ≡ apply c (state_of s) o → x ≡ answer_of w r → (x, after) ≡ called c w o
+    → state_of s ≡ state_is w → written_says s r after ≡ apply c (state_of s) o → x ≡ answer_of number w r → (x, after) ≡ called c w o
 call-is c w o s r {after = after} e p q = refused-is q ∙ left-by w s r after ∙ ap (left_by w) (p ∙ ap (λ (t : writing.Writer). apply c t o) e)

@@ -7,8 +7,6 @@ use Rattle.protocol.specs.Layer.{find}
 use Rattle.protocol.specs.Kind.{Kind, EnterShow, FixtureList, index, kinds}
 use Rattle.writing.specs.Call.{Call}
 use Rattle.writing.specs.Writer.{Turn, idle, body_due, items_due, parts_due, Writer, apply}
-use Rattle.refusal.specs.Number.{number}
-use Rattle.refusal.specs.declared.Refusal.{Refusal}
 use Rattle.turns.specs.Says.{kind_is}
 use Rattle.turns.specs.declared.Kind.{Kind as Declared}
 use Rattle.writer.specs.Says.{state_of}
@@ -65,9 +63,10 @@ flat_state w = flat_turn w.turn (w.at % 4294967296)
 abbrev pub refused_with : WriterState → (number : ℕ) → WriterAnswer
 refused_with w n = record { number = n; writer = w }
 
-abbrev pub answer_of : WriterState → Result writer.Writer Refusal → WriterAnswer
-answer_of w (Ok next) = record { number = 0; writer = flat_state (state_of next) }
-answer_of w (Err r) = refused_with w (number r)
+-- by what tells why it is refused
+abbrev pub answer_of : {R : Type 0} → (R → ℕ) → WriterState → Result writer.Writer R → WriterAnswer
+answer_of told w (Ok next) = record { number = 0; writer = flat_state (state_of next) }
+answer_of told w (Err r) = refused_with w (told r)
 
 -- by its number
 abbrev pub settled_with : WriterState → (number : ℕ) → Writer → WriterAnswer

@@ -3,6 +3,7 @@
 #![tactic(auto)]
 
 pub mod numbers;
+pub mod reason;
 pub mod report;
 pub mod state;
 pub mod written;

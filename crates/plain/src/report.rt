@@ -1,11 +1,11 @@
 // A step of the walk as plain fields. A message's own fields are read from its body by its kind's reader.
 ghost use Rattle.std.specs.Prelude.{◌≡◌};
 ghost use Rattle.turns.specs.Says.{kind_is};
-ghost use Rattle.citp.specs.Says.{message_kind, message_hint, packet_says, step_says};
+ghost use Rattle.citp.specs.Says.{message_kind, message_hint, packet_says, step_told};
 ghost use Rattle.plain.specs.Report.{or_zero, packet_step, flat_report, end_step, flat_step};
 
+use crate::reason::Reason;
 use citp::{Cursor, Message, PacketReport, Report, body_place};
-use refusal::Refusal;
 use turns::Kind;
 
 #[repr(C)]
@@ -116,9 +116,9 @@ fn report(p: PacketReport, next: usize) -> StepAnswer
             r.part_count = part_count;
             r
         }
-        Report::Refused(refusal) => {
+        Report::Refused(number) => {
             r.report = 5;
-            r.number = refusal.number();
+            r.number = number;
             r
         }
     }
@@ -136,15 +136,15 @@ fn end(number: u8, offset: usize) -> StepAnswer
 }
 
 // What a step from an offset answered.
-pub fn step_answer(
+pub fn step_answer<R: Reason>(
     offset: usize,
-    step: Result<Option<(PacketReport, Cursor)>, Refusal>,
+    step: Result<Option<(PacketReport, Cursor)>, R>,
 ) -> StepAnswer
-    ensures { result ≡ flat_step (step_says offset step) }
+    ensures { result ≡ flat_step (step_told R.told offset step) }
 {
     match step {
         Ok(Some((p, next))) => report(p, next.at),
         Ok(None) => end(0, offset),
-        Err(refusal) => end(refusal.number(), offset),
+        Err(reason) => end(reason.number(), offset),
     }
 }

@@ -4,7 +4,7 @@ ghost use Rattle.turns.specs.Says.{turn_is};
 ghost use Rattle.writer.specs.Says.{state_of};
 ghost use Rattle.plain.specs.State.{kind_at, kind_says, turn_at, state_is, flat_state, answer_of, refused_with};
 
-use refusal::Refusal;
+use crate::reason::Reason;
 use turns::{Kind, Turn};
 use writer::Writer;
 
@@ -100,15 +100,15 @@ impl WriterState {
     }
 
     // A refused call answers the state that it was given.
-    pub fn answer(self, r: Result<Writer, Refusal>) -> WriterAnswer
-        ensures { result ≡ answer_of self r }
+    pub fn answer<R: Reason>(self, r: Result<Writer, R>) -> WriterAnswer
+        ensures { result ≡ answer_of R.told self r }
     {
         match r {
             Ok(next) => WriterAnswer {
                 writer: WriterState::of(next),
                 number: 0,
             },
-            Err(refusal) => self.refused(refusal.number()),
+            Err(reason) => self.refused(reason.number()),
         }
     }
 

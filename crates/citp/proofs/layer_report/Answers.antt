@@ -6,7 +6,8 @@ use Rattle.citp.proofs.layer_report.Goals as goal
 
 pub returns-in_default : goal.returns-in_default
 returns-in_default c = let a = c.args in
-    layer-unread (layer_is a.layer) a.at a.packet.now (omega (arith, c.header_length-length.ensures, c.if-packet-length.false)) (sym c.in_default.ensures)
+    rw c.number-in_default.ensures
+    (layer-unread (layer_is a.layer) a.at a.packet.now (omega (arith, c.header_length-length.ensures, c.if-packet-length.false)) (sym c.in_default.ensures))
 
 pub returns : goal.returns
 returns c = let a = c.args in

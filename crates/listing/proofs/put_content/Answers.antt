@@ -14,4 +14,4 @@ pub returns-in-Fragment : goal.returns-in-Fragment
 returns-in-Fragment c = search contents
 
 pub returns-in-Refused : goal.returns-in-Refused
-returns-in-Refused c = content-refusal c.args.s.now c.args.p c.in-Refused.is (rw c.number.ensures at c.put_refusal.ensures)
+returns-in-Refused c = content-refusal c.args.s.now c.args.p c.in-Refused.is c.put_refusal.ensures
