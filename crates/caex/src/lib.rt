@@ -22,8 +22,8 @@ ghost use Rattle.caex.specs.Write.{fixture_list_head, laser_feed_list_head, lase
 
 use fixture::Fixtures;
 use put::{
-    Faults, list_size, put_list, put_number_1, put_number_2, put_u8, put_u16, put_u32, put_ucs2,
-    ucs2_size,
+    Faults, exact_list_size, put_list, put_number_1, put_number_2, put_u8, put_u16, put_u32,
+    put_ucs2, ucs2_size,
 };
 use refusal::Refusal;
 use wire::{Cursor, Item, List, NAME_LIMIT, Ucs2};
@@ -184,7 +184,7 @@ impl FixtureRemove {
     pub fn size_bytes(fixture_identifiers: &[u32]) -> usize
         ensures { result ≡ capped (size fixture_remove fixture_identifiers.now) }
     {
-        list_size(fixture_identifiers)
+        exact_list_size(fixture_identifiers)
     }
 
     pub fn write_to_bytes(

@@ -12,7 +12,7 @@ ghost use Rattle.refusal.specs.Says.{answer_says};
 ghost use Rattle.finf.specs.Says.{sfra, fram, sfra_view, fram_view, message_kind, message_view};
 ghost use Rattle.wire.specs.Says.{says, message_says};
 
-use put::{Faults, cstring_size, list_size, put_cstring, put_list, put_u8, put_u16};
+use put::{Faults, cstring_size, exact_list_size, put_cstring, put_list, put_u8, put_u16};
 use refusal::Refusal;
 use wire::{CString, Cursor, List};
 
@@ -51,7 +51,7 @@ impl SFra {
     pub fn size_bytes(fixture_identifiers: &[u16]) -> usize
         ensures { result ≡ capped (size sfra fixture_identifiers.now) }
     {
-        list_size(fixture_identifiers)
+        exact_list_size(fixture_identifiers)
     }
 
     pub fn write_to_bytes(

@@ -12,7 +12,7 @@ ghost use Rattle.refusal.specs.Says.{answer_says};
 ghost use Rattle.fsel.specs.Says.{sele, dese, sele_view, dese_view, message_kind, message_view};
 ghost use Rattle.wire.specs.Says.{says, message_says};
 
-use put::{Faults, list_size, put_list, put_u8};
+use put::{Faults, exact_list_size, put_list, put_u8};
 use refusal::Refusal;
 use wire::{Cursor, List};
 
@@ -59,7 +59,7 @@ impl Sele {
     pub fn size_bytes(fixture_identifiers: &[u16]) -> usize
         ensures { result ≡ capped (size sele (0, (0, fixture_identifiers.now))) }
     {
-        list_size(fixture_identifiers).saturating_add(2)
+        exact_list_size(fixture_identifiers).saturating_add(2)
     }
 
     pub fn write_to_bytes(
@@ -105,7 +105,7 @@ impl DeSe {
     pub fn size_bytes(fixture_identifiers: &[u16]) -> usize
         ensures { result ≡ capped (size dese fixture_identifiers.now) }
     {
-        list_size(fixture_identifiers)
+        exact_list_size(fixture_identifiers)
     }
 
     pub fn write_to_bytes(

@@ -9,7 +9,7 @@ ghost use Rattle.put.specs.Faults.{and_of, and_long};
 ghost use Rattle.format.proofs.Passing.{Plain};
 ghost use Rattle.format.proofs.Width.{width};
 ghost use Rattle.refusal.specs.Says.{number_says};
-ghost use Rattle.put.specs.Put.{Puts, Writes, Weighs};
+ghost use Rattle.put.specs.Put.{Puts, Writes, capped, Weighs};
 
 use refusal::Refusal;
 
@@ -101,11 +101,6 @@ pub trait ToBytes: Copy {
 
     const WIDTH: usize;
 
-    // The bytes of values: no slice of them is longer than memory.
-    fn bytes(values: &[Self]) -> usize
-        ensures number { result ≡ length values.now * WIDTH }
-        ensures fits { result ≤ 9223372036854775807 };
-
     fn put(self, out: &mut [u8], at: usize) -> usize
         ensures { Writes format (value self) at out.old result out.new };
 
@@ -122,10 +117,6 @@ impl ToBytes for u8 {
     ghost WIDTH = { 1 };
 
     const WIDTH: usize = 1;
-
-    fn bytes(values: &[u8]) -> usize {
-        values.len() * Self::WIDTH
-    }
 
     fn put(self, out: &mut [u8], at: usize) -> usize {
         put_u8(out, at, self)
@@ -145,10 +136,6 @@ impl ToBytes for u16 {
 
     const WIDTH: usize = 2;
 
-    fn bytes(values: &[u16]) -> usize {
-        values.len() * Self::WIDTH
-    }
-
     fn put(self, out: &mut [u8], at: usize) -> usize {
         put_u16(out, at, self)
     }
@@ -167,10 +154,6 @@ impl ToBytes for u32 {
 
     const WIDTH: usize = 4;
 
-    fn bytes(values: &[u32]) -> usize {
-        values.len() * Self::WIDTH
-    }
-
     fn put(self, out: &mut [u8], at: usize) -> usize {
         put_u32(out, at, self)
     }
@@ -178,6 +161,31 @@ impl ToBytes for u32 {
     ghost plain = { tt };
 
     ghost wide = { refl };
+}
+
+// What is written in no more bytes than it takes in memory: the bytes of a slice of it fit a usize.
+pub trait InMemory: ToBytes {
+    fn bytes(values: &[Self]) -> usize
+        ensures number { result ≡ length values.now * Self.WIDTH }
+        ensures fits { result ≤ 9223372036854775807 };
+}
+
+impl InMemory for u8 {
+    fn bytes(values: &[u8]) -> usize {
+        values.len() * Self::WIDTH
+    }
+}
+
+impl InMemory for u16 {
+    fn bytes(values: &[u16]) -> usize {
+        values.len() * Self::WIDTH
+    }
+}
+
+impl InMemory for u32 {
+    fn bytes(values: &[u32]) -> usize {
+        values.len() * Self::WIDTH
+    }
 }
 
 // Values one behind the other, with neither count nor zero.
@@ -323,8 +331,63 @@ pub fn ucs2_size(units: &[u16]) -> usize
     units.len() * 2 + 2
 }
 
+// At most usize::MAX: a slice of values that take less in memory may be written longer than memory is.
 pub fn list_size<T: ToBytes>(values: &[T]) -> usize
+    ensures { result ≡ capped (size (list 2 T.format) (map T.value values.now)) }
+{
+    values.len().saturating_mul(T::WIDTH).saturating_add(2)
+}
+
+// The size itself.
+pub fn exact_list_size<T: InMemory>(values: &[T]) -> usize
     ensures { result ≡ size (list 2 T.format) (map T.value values.now) }
 {
     T::bytes(values) + 2
+}
+
+#[cfg(test)]
+mod tests {
+    use super::*;
+
+    // Nothing, which is written in four bytes: a slice of it may be written longer than memory is.
+    #[derive(Clone, Copy)]
+    struct Wide {}
+
+    impl ToBytes for Wide {
+        ghost format = { number 4 };
+
+        ghost value = { λ x. 7 };
+
+        ghost WIDTH = { 4 };
+
+        const WIDTH: usize = 4;
+
+        fn put(self, out: &mut [u8], at: usize) -> usize {
+            put_u32(out, at, 7)
+        }
+
+        ghost plain = { tt };
+
+        ghost wide = { refl };
+    }
+
+    // A count of two bytes, and as many numbers.
+    #[test]
+    fn sizes_lists(rt: HostRuntime) {
+        assert_eq!(rt; list_size(b"abc".as_slice()), 5);
+        assert_eq!(rt; list_size([1u16, 2].as_slice()), 6);
+        assert_eq!(rt; exact_list_size([1u16, 2].as_slice()), 6);
+        let three = [Wide {}; 3];
+        assert_eq!(rt; list_size(three.as_slice()), 14);
+        let mut out = [255u8; 15];
+        assert_eq!(rt; put_list(&mut out, 0, three.as_slice()), 14);
+        assert_eq!(rt;
+            out.as_slice(),
+            b"\x03\0\x07\0\0\0\x07\0\0\0\x07\0\0\0\xff".as_slice()
+        );
+        let most = [Wide {}; 0x3fff_ffff_ffff_ffff];
+        assert_eq!(rt; list_size(most.as_slice()), 0xffff_ffff_ffff_fffe);
+        let more = [Wide {}; 0x4000_0000_0000_0000];
+        assert_eq!(rt; list_size(more.as_slice()), usize::MAX);
+    }
 }

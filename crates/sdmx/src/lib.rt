@@ -15,7 +15,10 @@ ghost use Rattle.sdmx.specs.Says.{capa, unam, chbk, chls, sxus, capa_view, unam_
 ghost use Rattle.sdmx.specs.Says.{level_value, message_kind, message_view};
 ghost use Rattle.wire.specs.Says.{says, message_says};
 
-use put::{Faults, ToBytes, cstring_size, list_size, put_cstring, put_list, put_u8, put_u16};
+use put::{
+    Faults, InMemory, ToBytes, cstring_size, exact_list_size, put_cstring, put_list, put_u8,
+    put_u16,
+};
 use refusal::Refusal;
 use wire::{Block, CString, Cursor, Item, List, NAME_LIMIT};
 
@@ -64,7 +67,7 @@ impl Capa {
     pub fn size_bytes(capabilities: &[u16]) -> usize
         ensures { result ≡ capped (size capa capabilities.now) }
     {
-        list_size(capabilities)
+        exact_list_size(capabilities)
     }
 
     pub fn write_to_bytes(out: &mut [u8], at: usize, capabilities: &[u16]) -> Result<usize, Refusal>
@@ -162,7 +165,7 @@ impl ChBk {
     pub fn size_bytes(channel_levels: &[u8]) -> usize
         ensures { result ≡ capped (size chbk (0, (0, (0, channel_levels.now)))) }
     {
-        list_size(channel_levels).saturating_add(4)
+        exact_list_size(channel_levels).saturating_add(4)
     }
 
     pub fn write_to_bytes(
@@ -234,10 +237,6 @@ impl ToBytes for ChannelLevel {
 
     const WIDTH: usize = ChannelLevel::WIDTH;
 
-    fn bytes(values: &[ChannelLevel]) -> usize {
-        values.len() * ChannelLevel::WIDTH
-    }
-
     fn put(self, out: &mut [u8], at: usize) -> usize {
         let at = put_u8(out, at, self.universe_index);
         let at = put_u16(out, at, self.channel);
@@ -247,6 +246,12 @@ impl ToBytes for ChannelLevel {
     ghost plain = { (tt, (tt, tt)) };
 
     ghost wide = { refl };
+}
+
+impl InMemory for ChannelLevel {
+    fn bytes(values: &[ChannelLevel]) -> usize {
+        values.len() * ChannelLevel::WIDTH
+    }
 }
 
 // What is left of a list of records.
@@ -284,7 +289,7 @@ impl ChLs {
     {
         Faults::NONE
             .list(channel_levels)
-            .weigh(at, list_size(channel_levels), out.len())?;
+            .weigh(at, exact_list_size(channel_levels), out.len())?;
         Ok(put_list(out, at, channel_levels))
     }
 }
