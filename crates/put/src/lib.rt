@@ -371,7 +371,7 @@ mod tests {
         ghost wide = { refl };
     }
 
-    // A count of two bytes, and as many numbers.
+    // A count of two bytes, so of 65,535 at most, and as many numbers.
     #[test]
     fn sizes_lists(rt: HostRuntime) {
         assert_eq!(rt; list_size(b"abc".as_slice()), 5);
@@ -385,6 +385,9 @@ mod tests {
             out.as_slice(),
             b"\x03\0\x07\0\0\0\x07\0\0\0\x07\0\0\0\xff".as_slice()
         );
+        assert!(rt; !Faults::NONE.list(three.as_slice()).long);
+        assert!(rt; !Faults::NONE.list([Wide {}; 65535].as_slice()).long);
+        assert!(rt; Faults::NONE.list([Wide {}; 65536].as_slice()).long);
         let most = [Wide {}; 0x3fff_ffff_ffff_ffff];
         assert_eq!(rt; list_size(most.as_slice()), 0xffff_ffff_ffff_fffe);
         let more = [Wide {}; 0x4000_0000_0000_0000];
